@@ -1,0 +1,3 @@
+pub mod Copied
+pub mod Layers
+pub mod Parting

@@ -1,0 +1,29 @@
+-- What a memory means: its contents are its words, from address 0 on.
+use mathlib.Core.Path.{_≡_, refl}
+use mathlib.Core.List.{List}
+use Prim.Native.Nat.{ℕ, _%_, _^_}
+use native.Mathlib.Omega.{arith}
+use lib.ListN.{getD, set}
+use Rattle.bus.specs.Lanes.{merged}
+use Rattle.bus.specs.declared.Marks.{Marks}
+use Rattle.bus.specs.Meaning.{Meaning}
+
+-- the word at an address, and 0 past the end
+abbrev pub memoryShown : List ℕ → ℕ → ℕ
+memoryShown h at = getD h at 0 % 2 ^ 32
+
+-- a write replaces the marked bytes; past the end it is ignored
+abbrev pub memoryWrite : List ℕ → ℕ → ℕ → Marks → List ℕ
+memoryWrite h at word marks = set h at (merged (getD h at 0) word marks)
+
+-- reads and clocks change nothing
+abbrev pub memoryMeaning : Meaning
+memoryMeaning = record {
+  shown = memoryShown;
+  read = λ h at. h;
+  write = memoryWrite;
+  passed = λ h n. h;
+  fits = λ h at. omega arith;
+  none = λ h. refl;
+  more = λ h a b. refl;
+}
