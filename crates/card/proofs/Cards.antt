@@ -5,9 +5,8 @@ use mathlib.Core.Bool.{true, false}
 use Prim.Native.Nat.{ℕ, _+_, _<_, _≤_, min}
 use native.Mathlib.Omega.{arith}
 use lib.Dec.{leb, ltb}
-use lib.ListN.{length, take, drop, replicate, length-replicate}
-use lib.Seq.{drop-drop, take-all}
-use Rattle.std.proofs.shelf.Lists.{take-replicate}
+use lib.ListN.{length, take, drop}
+use lib.Seq.{drop-drop}
 use Rattle.std.proofs.shelf.Tests.{cond-false, and-left, and-right, lt-leb, le-ltb}
 use Rattle.bus.specs.Filled.{filled}
 use Rattle.bus.specs.Meaning.{Meaning}
@@ -17,12 +16,14 @@ use Rattle.memory.specs.Words.{memoryMeaning}
 use Rattle.rom.specs.Boot.{bootImage, ShowsBoot}
 use Rattle.rom.specs.Table.{inRom, romMeaning, romShown, romRead, romWrite}
 use Rattle.panel.specs.Cells.{onPanel, panelMeaning, panelShown, panelRead, panelWrite}
+use Rattle.rom.proofs.Roms.{boot-shown}
+use Rattle.panel.proofs.Handing.{table-long}
 use Rattle.panel.proofs.Panels.{held, below-shown}
 use Rattle.std.specs.Of.Vec.{vec-items}
 use Rattle.memory.specs.declared.Memory.{Memory}
 use Rattle.rom.specs.declared.Rom.{Rom}
 use Rattle.panel.specs.declared.Panel.{Panel}
-use Rattle.card.specs.Stack.{cardMeaning, cardContents, MemoryBelow}
+use Rattle.card.specs.Stack.{cardMeaning, cardContents, newCard, MemoryBelow}
 
 off-panel : (at : ℕ) → at < 0x3FFFF0 → onPanel at ≡ false
 off-panel at lt = and-left _ _ (lt-leb 0x3FFFF0 at lt)
@@ -44,11 +45,11 @@ memory-below = record {
 }
 
 -- the panel shows what the ROM below it shows
-pub boots : (age taken count : ℕ) (bytes table words : List ℕ) → length bytes ≡ 64 → ShowsBoot (romMeaning memoryMeaning) (table ++ words) →
-    ShowsBoot cardMeaning (held age taken count bytes (table ++ words))
-boots age taken count bytes table words long shows k lt =
-    sym (below-shown (romMeaning memoryMeaning) age taken count bytes (table ++ words) (0x3FF800 + k) long (off-panel (0x3FF800 + k) (omega arith)))
-    ∙ shows k lt
+pub new-shows-boot : (words feed : List ℕ) → ShowsBoot cardMeaning (newCard words feed)
+new-shows-boot words feed k lt =
+    let below = bootImage ++ take 262144 words in
+    sym (below-shown (romMeaning memoryMeaning) 0 0 (min 64 (length feed)) (filled 64 feed) below (0x3FF800 + k) (table-long feed) (off-panel (0x3FF800 + k) (omega arith)))
+    ∙ boot-shown memoryMeaning (take 262144 words) k lt
 
 -- the contents by its layers
 pub stacked : (s : Panel (Rom Memory)) (r : Rom Memory) (y : Memory) (count : ℕ) (bytes table words : List ℕ) →
@@ -56,19 +57,12 @@ pub stacked : (s : Panel (Rom Memory)) (r : Rom Memory) (y : Memory) (count : �
     r .table ≡ table → r .below ≡ y → vec-items (y .words) ≡ words →
     cardContents s ≡ held 0 0 count bytes (table ++ words)
 stacked s r y count bytes table words a t c b below tab under ws =
-    ap (λ x. held x (s .feed .taken) (s .feed .count) (s .feed .bytes) (s .below .table ++ vec-items (s .below .below .words))) a
-    ∙ ap (λ x. held 0 x (s .feed .count) (s .feed .bytes) (s .below .table ++ vec-items (s .below .below .words))) t
-    ∙ ap (λ x. held 0 0 x (s .feed .bytes) (s .below .table ++ vec-items (s .below .below .words))) c
-    ∙ ap (λ x. held 0 0 count x (s .below .table ++ vec-items (s .below .below .words))) b
-    ∙ ap (λ x. held 0 0 count bytes (x .table ++ vec-items (x .below .words))) below
+    let own = λ (x : Rom Memory). x .table ++ vec-items (x .below .words) in
+    ap (λ x. held x (s .feed .taken) (s .feed .count) (s .feed .bytes) (own (s .below))) a
+    ∙ ap (λ x. held 0 x (s .feed .count) (s .feed .bytes) (own (s .below))) t
+    ∙ ap (λ x. held 0 0 x (s .feed .bytes) (own (s .below))) c
+    ∙ ap (λ x. held 0 0 count x (own (s .below))) b
+    ∙ ap (λ x. held 0 0 count bytes (own x)) below
     ∙ ap (λ x. held 0 0 count bytes (x ++ vec-items (r .below .words))) tab
     ∙ ap (λ x. held 0 0 count bytes (table ++ vec-items (x .words))) under
     ∙ ap (λ x. held 0 0 count bytes (table ++ x)) ws
-
-pub no-feed : filled 64 [] ≡ replicate 64 0
-unfolding filled
-no-feed = take-replicate 64 64 0 (omega arith)
-
--- a memory of zeros
-pub zeros : (words : List ℕ) → words ≡ replicate 4096 0 → take 262144 words ≡ replicate 4096 0
-zeros words e = ap (λ w. take 262144 w) e ∙ take-all 262144 (replicate 4096 0) (let long = length-replicate {A = ℕ} 4096 0 in omega arith)

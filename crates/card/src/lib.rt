@@ -1,16 +1,15 @@
 //! The card's bus: the panel over the boot ROM over a memory.
 ghost use mathlib.Core.Path.{_≡_};
-ghost use mathlib.Core.List.{[], _∷_, _++_};
+ghost use mathlib.Core.List.{List, []};
 ghost use mathlib.Core.Bool.{cond, _||_};
-ghost use Prim.Native.Nat.{min};
+ghost use Prim.Native.Nat.{ℕ};
 ghost use lib.Dec.{eqb, ltb};
-ghost use lib.ListN.{length, take, replicate};
+ghost use lib.ListN.{length, replicate};
 ghost use Rattle.std.specs.Of.Vec.{vec-items};
 ghost use Rattle.std.specs.Vec.{made};
-ghost use Rattle.bus.specs.Filled.{filled};
 ghost use Rattle.refusal.specs.Heard.{heard, refused, nothing};
-ghost use Rattle.rom.specs.Boot.{bootImage, ShowsBoot};
-ghost use Rattle.card.specs.Stack.{cardMeaning, cardContents, MemoryBelow};
+ghost use Rattle.rom.specs.Boot.{ShowsBoot};
+ghost use Rattle.card.specs.Stack.{cardMeaning, cardContents, newCard, MemoryBelow};
 use memory::Memory;
 use memory::MemoryBus;
 use panel::Panel;
@@ -35,12 +34,20 @@ pub fn check(words: &[u32], feed: &[u8]) -> Result<(), Refusal>
     panel::check(feed)
 }
 
-/// A card with the first 262,144 of these words and the first 64 bytes of the feed.
-pub fn stack(words: Vec<u32>, feed: &[u8]) -> Card
-    ensures contents { λ r. ⌜ cardContents r ≡ 0 ∷ 0 ∷ min 64 (length (now (feed .entry))) ∷ (filled 64 (now (feed .entry)) ++ (bootImage ++ take 262144 (vec-items words))) ⌝ }
-    ensures boots { λ r. ⌜ ShowsBoot cardMeaning (cardContents r) ⌝ }
+// What holds of every card, for the contract of the maker. Nothing runs here.
+fn laws()
+    ensures shows_boot { λ _. ⌜ ((words feed : List ℕ) → ShowsBoot cardMeaning (newCard words feed)) ⌝ }
     ensures memory_below { λ _. ⌜ MemoryBelow ⌝ }
 {
+}
+
+/// A card with the first 262,144 of these words and the first 64 bytes of the feed.
+pub fn stack(words: Vec<u32>, feed: &[u8]) -> Card
+    ensures contents { λ r. ⌜ cardContents r ≡ newCard (vec-items words) (now (feed .entry)) ⌝ }
+    ensures shows_boot { λ _. ⌜ ((words feed : List ℕ) → ShowsBoot cardMeaning (newCard words feed)) ⌝ }
+    ensures memory_below { λ _. ⌜ MemoryBelow ⌝ }
+{
+    laws();
     let memory = Memory::new(words);
     let rom = Rom::boot(memory);
     Panel::new(rom, feed)
@@ -48,7 +55,7 @@ pub fn stack(words: Vec<u32>, feed: &[u8]) -> Card
 
 /// The standard card: 4,096 zero words and no feed.
 pub fn standard(heap: Global) -> Result<Card, AllocError>
-    ensures { λ r. ⌜ made r (λ c. cardContents c ≡ 0 ∷ 0 ∷ 0 ∷ (replicate 64 0 ++ (bootImage ++ replicate 4096 0))) ⌝ }
+    ensures { λ r. ⌜ made r (λ c. cardContents c ≡ newCard (replicate 4096 0) []) ⌝ }
 {
     let words = vec![in heap; 0; STANDARD_WORDS]?;
     Ok(stack(words, &[]))

@@ -34,6 +34,13 @@ pub fn check(words: &[u32]) -> Result<(), Refusal>
     Ok(())
 }
 
+// What holds of every memory, for the contract of the maker. Nothing runs here.
+fn laws()
+    ensures keeps { λ _. ⌜ Keeps ⌝ }
+    ensures still { λ _. ⌜ Still memoryMeaning ⌝ }
+{
+}
+
 impl Memory {
     /// A memory of the first 262,144 of these words.
     pub fn new(mut words: Vec<u32>) -> Memory
@@ -41,6 +48,7 @@ impl Memory {
         ensures keeps { λ _. ⌜ Keeps ⌝ }
         ensures still { λ _. ⌜ Still memoryMeaning ⌝ }
     {
+        laws();
         words.truncate(MOST_WORDS);
         Memory { words }
     }

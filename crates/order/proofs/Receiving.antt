@@ -4,8 +4,9 @@ use mathlib.Core.List.{List, [], _∷_, _++_, append-assoc}
 use Prim.Native.Nat.{ℕ, suc, _+_, _*_, _/_, _%_, _^_, _<_}
 use native.Mathlib.Nat.{mod-eq-of-lt}
 use native.Mathlib.Omega.{arith}
-use lib.ListN.{length, getD, drop, replicate, length-append, length-replicate}
-use lib.Seq.{drop-at}
+use lib.ListN.{length, getD, take, drop, replicate, length-replicate}
+use lib.Seq.{drop-at, take-all}
+use Rattle.std.proofs.shelf.Lists.{take-replicate}
 use Rattle.bus.specs.declared.Marks.{Marks}
 use Rattle.bus.specs.Calls.{after}
 use Rattle.bus.specs.Lanes.{inLane, joined, merged, placed, onlyMarked}
@@ -13,7 +14,8 @@ use Rattle.bus.specs.Over.{over-at}
 use Rattle.bus.proofs.Parting.{parted, joined-fits, replaced}
 use Rattle.memory.specs.Words.{memoryMeaning}
 use Rattle.rom.specs.Boot.{bootImage}
-use Rattle.card.specs.Stack.{cardMeaning, MemoryBelow}
+use Rattle.bus.specs.Filled.{filled}
+use Rattle.card.specs.Stack.{cardMeaning, newCard}
 use Rattle.card.proofs.Cards.{memory-below}
 use Rattle.order.specs.Quantity.{bytesOf, loadedAs, fieldStores, loadedBytes}
 use Rattle.order.specs.declared.Field.{Field}
@@ -73,21 +75,23 @@ module _ (a b c d : ℕ) (fa : a < 256) (fb : b < 256) (fc : c < 256) (fd : d < 
       ∙ ap (λ z. a ∷ b ∷ c ∷ z ∷ []) (ap (λ h. byte h 3) r3 ∙ ap (λ w. inLane w 3) loaded ∙ part 3 (omega arith))
 
 -- a new standard card
-pub starts : 0 ∷ 0 ∷ 0 ∷ (replicate 64 0 ++ (bootImage ++ replicate 4096 0)) ≡ first 0
-starts = ap (λ l. 0 ∷ 0 ∷ 0 ∷ l) (sym (append-assoc (replicate 64 0) bootImage (replicate 4096 0)))
+pub starts : newCard (replicate 4096 0) [] ≡ first 0
+unfolding filled
+starts =
+    ap (λ f. 0 ∷ 0 ∷ 0 ∷ (f ++ (bootImage ++ take 262144 (replicate 4096 0)))) (take-replicate 64 64 0 (omega arith))
+    ∙ ap (λ w. 0 ∷ 0 ∷ 0 ∷ (replicate 64 0 ++ (bootImage ++ w))) (take-all 262144 (replicate 4096 0) (let long = length-replicate {A = ℕ} 4096 0 in omega arith))
+    ∙ ap (λ l. 0 ∷ 0 ∷ 0 ∷ l) (sym (append-assoc (replicate 64 0) bootImage (replicate 4096 0)))
 
 -- what is loaded after the field was stored in a new standard card
-pub received : (a b c d : ℕ) → a < 256 → b < 256 → c < 256 → d < 256 → (h0 h1 h2 : List ℕ) (word : ℕ) (bytes : List ℕ) →
-    h0 ≡ 0 ∷ 0 ∷ 0 ∷ (replicate 64 0 ++ (bootImage ++ replicate 4096 0)) → h1 ≡ after cardMeaning h0 (fieldStores (a ∷ b ∷ c ∷ d ∷ [])) →
-    word ≡ cardMeaning .shown h1 0 → h2 ≡ cardMeaning .read h1 0 → bytes ≡ loadedBytes cardMeaning h2 →
-    (word ≡ loadedAs (a ∷ b ∷ c ∷ d ∷ [])) × (bytes ≡ a ∷ b ∷ c ∷ d ∷ [])
-received a b c d fa fb fc fd h0 h1 h2 word bytes new put shows same loads =
-    let at-h1 : h1 ≡ first (loadedAs (a ∷ b ∷ c ∷ d ∷ [])) =
-    put ∙ ap (λ h. after cardMeaning h (fieldStores (a ∷ b ∷ c ∷ d ∷ []))) (new ∙ starts) ∙ stored a b c d fa fb fc fd in
-    let at-h2 : h2 ≡ first (loadedAs (a ∷ b ∷ c ∷ d ∷ [])) = same ∙ ap (λ h. cardMeaning .read h 0) at-h1 ∙ kept _ in (
-      shows ∙ ap (λ h. cardMeaning .shown h 0) at-h1 ∙ loaded a b c d fa fb fc fd,
-      loads ∙ ap (λ h. loadedBytes cardMeaning h) at-h2 ∙ loaded-bytes a b c d fa fb fc fd,
-    )
+module _ (a b c d : ℕ) (fa : a < 256) (fb : b < 256) (fc : c < 256) (fd : d < 256) (h : List ℕ) (new : h ≡ newCard (replicate 4096 0) []) where
+  holds : after cardMeaning h (fieldStores (a ∷ b ∷ c ∷ d ∷ [])) ≡ first (loadedAs (a ∷ b ∷ c ∷ d ∷ []))
+  holds = ap (λ x. after cardMeaning x (fieldStores (a ∷ b ∷ c ∷ d ∷ []))) (new ∙ starts) ∙ stored a b c d fa fb fc fd
+
+  pub word-received : cardMeaning .shown (after cardMeaning h (fieldStores (a ∷ b ∷ c ∷ d ∷ []))) 0 ≡ loadedAs (a ∷ b ∷ c ∷ d ∷ [])
+  word-received = ap (λ x. cardMeaning .shown x 0) holds ∙ loaded a b c d fa fb fc fd
+
+  pub bytes-received : loadedBytes cardMeaning (cardMeaning .read (after cardMeaning h (fieldStores (a ∷ b ∷ c ∷ d ∷ []))) 0) ≡ a ∷ b ∷ c ∷ d ∷ []
+  bytes-received = ap (λ x. loadedBytes cardMeaning (cardMeaning .read x 0)) holds ∙ ap (λ x. loadedBytes cardMeaning x) (kept _) ∙ loaded-bytes a b c d fa fb fc fd
 
 pub same-field : (f g : Field) → bytesOf f ≡ bytesOf g → f ≡ g
 same-field f g e =

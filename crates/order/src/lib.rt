@@ -115,14 +115,24 @@ pub struct Finding {
     pub bytes: Field,
 }
 
-/// Stores a field in the standard card's memory and loads it back, as a word and as bytes.
+/// Stores a field in a bus at byte addresses 0 to 3 and loads it back, as a word and as bytes.
+pub fn pass_through<B: Bus>(bus: &mut B, field: Field) -> Finding
+    ensures word { λ r. ⌜ r .word ≡ B·Bus .meaning .shown (after (B·Bus .meaning) (B·Bus .contents (now (bus .entry))) (fieldStores (bytesOf field))) 0 ⌝ }
+    ensures bytes { λ r. ⌜ bytesOf (r .bytes) ≡ loadedBytes (B·Bus .meaning) (B·Bus .meaning .read (after (B·Bus .meaning) (B·Bus .contents (now (bus .entry))) (fieldStores (bytesOf field))) 0) ⌝ }
+    ensures after { λ _. ⌜ B·Bus .contents (now (bus .exit)) ≡ after (B·Bus .meaning) (B·Bus .meaning .read (after (B·Bus .meaning) (B·Bus .contents (now (bus .entry))) (fieldStores (bytesOf field))) 0) fieldLoads ⌝ }
+{
+    store_field(bus, field);
+    let word = load_word(bus, 0);
+    let bytes = load_field(bus);
+    Finding { word, bytes }
+}
+
+/// What the standard card makes of a quantity field: its word load takes the first byte as the lowest.
 pub fn receive(heap: Global, field: Field) -> Result<Finding, AllocError>
     ensures word { λ r. ⌜ made r (λ f. f .word ≡ loadedAs (bytesOf field)) ⌝ }
     ensures bytes { λ r. ⌜ made r (λ f. f .bytes ≡ field) ⌝ }
 {
     let mut bus = card::standard(heap)?;
-    store_field(&mut bus, field);
-    let word = load_word(&mut bus, 0);
-    let bytes = load_field(&mut bus);
-    Ok(Finding { word, bytes })
+    let finding = pass_through(&mut bus, field);
+    Ok(finding)
 }

@@ -8,15 +8,15 @@ use native.Mathlib.Numerals.{add-one}
 use native.Mathlib.Nat.{mod-eq-of-lt}
 use native.Mathlib.Omega.{arith}
 use lib.Dec.{leb, ltb, eqb}
-use lib.ListN.{length, getD, take, drop, replicate, length-take, List·getD-append}
-use lib.Seq.{drop-cons, getD-take}
+use lib.ListN.{length, getD, take, drop, replicate, length-take, length-append, length-replicate, List·getD-append}
+use lib.Seq.{drop-cons, getD-take, length-take-le}
 use Rattle.std.proofs.shelf.Tests.{cases-bool, cases-lt, cases-eq, cond-true, cond-false, and-parts, and-from, and-left, and-right, ltb-true, leb-true, lt-ltb, le-ltb, le-leb, lt-leb, eq-eqb, ne-eqb, false≢true}
 use Rattle.bus.specs.Calls.{Call, after, called, clocks, lasted}
 use Rattle.bus.specs.Calls.Call.{passes, reads, writes}
 use Rattle.bus.specs.declared.Marks.{Marks}
 use Rattle.bus.specs.Filled.{filled}
 use Rattle.bus.specs.Meaning.{Meaning}
-use Rattle.panel.specs.Cells.{onPanel, arrived, cell, takenAfter, aged, aged-none, aged-more, panelMeaning}
+use Rattle.panel.specs.Cells.{onPanel, arrived, cell, takenAfter, aged, aged-none, aged-more, panelMeaning, newPanel}
 use Rattle.panel.specs.HandsOut.{HandsOut, handed, handedBy}
 use Rattle.panel.proofs.Panels.{held, own-shown, own-read, below-read, own-write, below-write, both-passed}
 
@@ -217,14 +217,12 @@ in-table fs fit k lt =
     ap (λ x. x % 256) (getD-take 64 (fs ++ replicate 64 0) k 0 in-64 ∙ List·getD-append fs (replicate 64 0) 0 k in-fs) ∙ mod-eq-of-lt (fit k)
     ∙ sym (getD-take 64 fs k 0 in-64)
 
--- a new panel
-pub new-hands-out : (m : Meaning) (fs q : List ℕ) (age taken count : ℕ) (bytes : List ℕ) →
-    age ≡ 0 → taken ≡ 0 → count ≡ min 64 (length fs) → bytes ≡ filled 64 fs → length bytes ≡ 64 → ((i : ℕ) → getD fs i 0 < 256) →
-    HandsOut (panelMeaning m) (held age taken count bytes q) (take 64 fs)
-new-hands-out m fs q age taken count bytes a t c b long fit =
-    let P : List ℕ → Type 0 = λ h. HandsOut (panelMeaning m) h (take 64 fs) in
+pub table-long : (fs : List ℕ) → length (filled 64 fs) ≡ 64
+unfolding filled
+table-long fs = length-take-le 64 (fs ++ replicate 64 0) (let zeros = length-replicate {A = ℕ} 64 0 in simp length-append (omega arith))
+
+pub new-hands-out : (m : Meaning) (fs q : List ℕ) → ((i : ℕ) → getD fs i 0 < 256) → HandsOut (panelMeaning m) (newPanel fs q) (take 64 fs)
+new-hands-out m fs q fit =
+    let P : ℕ → Type 0 = λ n. HandsOut (panelMeaning m) (held 0 0 n (filled 64 fs) q) (take 64 fs) in
     let few : length (take 64 fs) ≤ 64 = omega (arith, length-take 64 fs) in
-    let in-bytes : (k : ℕ) → k < length (take 64 fs) → getD bytes k 0 % 256 ≡ getD (take 64 fs) k 0 = λ k lt. ap (λ x. getD x k 0 % 256) b ∙ in-table fs fit k lt in
-    let is : held 0 0 (length (take 64 fs)) bytes q ≡ held age taken count bytes q =
-    ap (λ x. held x 0 (length (take 64 fs)) bytes q) (sym a) ∙ ap (λ x. held age x (length (take 64 fs)) bytes q) (sym t) ∙ ap (λ x. held age taken x bytes q) (length-take 64 fs ∙ sym c) in
-    subst P is (hands-out m (take 64 fs) bytes long few in-bytes q)
+    subst P (length-take 64 fs) (hands-out m (take 64 fs) (filled 64 fs) (table-long fs) few (in-table fs fit) q)

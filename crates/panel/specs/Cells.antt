@@ -1,16 +1,21 @@
 -- What a panel over a bus means. Its contents are its age in clocks, how many bytes of its feed were taken, how many the feed has,
 -- the feed's 64 places, and then the contents below.
 use mathlib.Core.Path.{_≡_, refl, ap, _∙_}
-use mathlib.Core.List.{List, [], _∷_}
+use mathlib.Core.List.{List, [], _∷_, _++_}
 use mathlib.Core.Bool.{Bool, cond, _&&_}
 use Prim.Native.Nat.{ℕ, _+_, _-_, _*_, _%_, _^_, _<_, min}
 use native.Mathlib.Omega.{arith}
 use lib.Dec.{leb, ltb, eqb}
-use lib.ListN.{getD, set, take, drop}
+use lib.ListN.{length, getD, set, take, drop}
 use Rattle.std.proofs.shelf.Tests.{cond-both}
 use Rattle.bus.specs.declared.Marks.{Marks}
+use Rattle.bus.specs.Filled.{filled}
 use Rattle.bus.specs.Meaning.{Meaning}
 use Rattle.bus.specs.Over.{over, over-none, over-more}
+
+-- a new panel over a bus with these contents: age 0, nothing taken, the first 64 bytes of a feed
+abbrev pub newPanel : List ℕ → List ℕ → List ℕ
+newPanel feed below = 0 ∷ 0 ∷ min 64 (length feed) ∷ (filled 64 feed ++ below)
 
 -- the panel's own word addresses, 16 cells from 3FFFF0H
 abbrev pub onPanel : ℕ → Bool

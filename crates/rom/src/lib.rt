@@ -1,8 +1,8 @@
 //! A ROM of 512 words over any bus.
 ghost use mathlib.Core.Path.{_≡_};
-ghost use mathlib.Core.List.{_++_};
+ghost use mathlib.Core.List.{List, _++_};
 ghost use mathlib.Core.Bool.{cond};
-ghost use Prim.Native.Nat.{_%_, _^_};
+ghost use Prim.Native.Nat.{ℕ, _%_, _^_};
 ghost use lib.Dec.{ltb};
 ghost use lib.ListN.{length};
 ghost use Rattle.bus.specs.Filled.{filled};
@@ -59,6 +59,13 @@ fn table(image: &[u32]) -> [u32; 512]
     words
 }
 
+// What holds of a ROM over every bus, for the contracts of the makers. Nothing runs here.
+fn laws<B: Bus>()
+    ensures still { λ _. ⌜ (Still (B·Bus .meaning) → Still (romMeaning (B·Bus .meaning))) ⌝ }
+    ensures shows_boot { λ _. ⌜ ((below : List ℕ) → ShowsBoot (romMeaning (B·Bus .meaning)) (bootImage ++ below)) ⌝ }
+{
+}
+
 impl<B: Bus> Rom<B> {
     /// A ROM of the first 512 words of the image, filled with zeros where there are fewer.
     pub fn new(below: B, image: &[u32]) -> Rom<B>
@@ -66,6 +73,7 @@ impl<B: Bus> Rom<B> {
         ensures below { λ r. ⌜ r .below ≡ below ⌝ }
         ensures still { λ _. ⌜ (Still (B·Bus .meaning) → Still (romMeaning (B·Bus .meaning))) ⌝ }
     {
+        laws::<B>();
         let table = table(image);
         Rom { table, below }
     }
@@ -74,8 +82,9 @@ impl<B: Bus> Rom<B> {
     pub fn boot(below: B) -> Rom<B>
         ensures table { λ r. ⌜ r .table ≡ bootImage ⌝ }
         ensures below { λ r. ⌜ r .below ≡ below ⌝ }
-        ensures shows { λ r. ⌜ ShowsBoot (romMeaning (B·Bus .meaning)) (r .table ++ B·Bus .contents (r .below)) ⌝ }
+        ensures shows_boot { λ _. ⌜ ((below : List ℕ) → ShowsBoot (romMeaning (B·Bus .meaning)) (bootImage ++ below)) ⌝ }
     {
+        laws::<B>();
         let table = boot_image();
         Rom { table, below }
     }
