@@ -38,8 +38,7 @@ pub fn check(words: &[u32], feed: &[u8]) -> Result<(), Refusal>
 fn laws()
     ensures shows_boot { λ _. ⌜ ((words feed : List ℕ) → ShowsBoot cardMeaning (newCard words feed)) ⌝ }
     ensures memory_below { λ _. ⌜ MemoryBelow ⌝ }
-{
-}
+{}
 
 /// A card with the first 262,144 of these words and the first 64 bytes of the feed.
 pub fn stack(words: Vec<u32>, feed: &[u8]) -> Card

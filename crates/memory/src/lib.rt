@@ -38,8 +38,7 @@ pub fn check(words: &[u32]) -> Result<(), Refusal>
 fn laws()
     ensures keeps { λ _. ⌜ Keeps ⌝ }
     ensures still { λ _. ⌜ Still memoryMeaning ⌝ }
-{
-}
+{}
 
 impl Memory {
     /// A memory of the first 262,144 of these words.

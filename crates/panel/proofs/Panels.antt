@@ -14,6 +14,11 @@ use Rattle.panel.specs.Cells.{onPanel, cell, takenAfter, aged, panelShown, pan
 abbrev pub held : ℕ → ℕ → ℕ → List ℕ → List ℕ → List ℕ
 held age taken count feed q = age ∷ taken ∷ count ∷ (feed ++ q)
 
+-- equal parts, equal contents
+pub same-held : {age age′ taken taken′ count count′ : ℕ} {feed feed′ q q′ : List ℕ} →
+    age ≡ age′ → taken ≡ taken′ → count ≡ count′ → feed ≡ feed′ → q ≡ q′ → held age taken count feed q ≡ held age′ taken′ count′ feed′ q′
+same-held a t c f q = cc
+
 module _ (m : Meaning) (age taken count : ℕ) (feed q : List ℕ) (a : ℕ) (long : length feed ≡ 64) where
   pub own-shown : onPanel a ≡ true → cell age taken count feed (a - 0x3FFFF0) ≡ panelShown m (held age taken count feed q) a
   own-shown e = sym (cond-true _ _ _ e ∙ ap (λ f. cell age taken count f (a - 0x3FFFF0)) (take-at feed q 64 long))

@@ -42,8 +42,7 @@ pub fn check(feed: &[u8]) -> Result<(), Refusal>
 // What holds of a panel over every bus, for the contract of the maker. Nothing runs here.
 fn laws<B: Bus>()
     ensures { λ _. ⌜ HandsOutEveryFeed (B·Bus .meaning) ⌝ }
-{
-}
+{}
 
 impl<B: Bus> Panel<B> {
     /// A panel of age 0 with the first 64 bytes of the feed.

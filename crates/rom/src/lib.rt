@@ -63,8 +63,7 @@ fn table(image: &[u32]) -> [u32; 512]
 fn laws<B: Bus>()
     ensures still { λ _. ⌜ (Still (B·Bus .meaning) → Still (romMeaning (B·Bus .meaning))) ⌝ }
     ensures shows_boot { λ _. ⌜ ((below : List ℕ) → ShowsBoot (romMeaning (B·Bus .meaning)) (bootImage ++ below)) ⌝ }
-{
-}
+{}
 
 impl<B: Bus> Rom<B> {
     /// A ROM of the first 512 words of the image, filled with zeros where there are fewer.

@@ -1,7 +1,6 @@
-use mathlib.Core.Path.{sym, ap, _∙_}
-use mathlib.Core.List.{_++_}
+use mathlib.Core.Path.{_≡_, refl, sym, ap, _∙_}
 use Prim.Native.Nat.{_%_}
-use Rattle.panel.proofs.Panels.{held, own-shown, below-shown, own-read, below-read}
+use Rattle.panel.proofs.Panels.{held, same-held, own-shown, below-shown, own-read, below-read}
 use Rattle.panel.proofs.PanelBus.read.Needs as need
 
 pub returns-then-inside : need.returns-then-inside
@@ -11,9 +10,13 @@ returns-then-inside g c =
     let q = g .B·Bus .contents (c .args .self .now .below) in
     let a = c .args .at % 4194304 in
     let e = sym (c .if-inside .ensures tt) in
+    let taken = c .take .ensures in
+    let same : q ≡ q = refl in
     record {
       word = c .show-word .ensures ∙ own-shown m (d .age) (d .taken) (d .count) (d .bytes) q a (d .whole) e;
-      after = cc (own-read m (d .age) (d .taken) (d .count) (d .bytes) q a (d .whole) e);
+      after =
+          same-held (taken .age) (taken .taken) (taken .count) (taken .bytes) same
+          ∙ own-read m (d .age) (d .taken) (d .count) (d .bytes) q a (d .whole) e;
     }
 
 pub returns-else-inside : need.returns-else-inside
