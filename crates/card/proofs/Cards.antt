@@ -1,21 +1,19 @@
 -- What the card's meaning is below the ROM, and at the ROM's addresses.
-use mathlib.Core.Path.{_≡_, refl, sym, ap, subst, _∙_}
-use mathlib.Core.List.{List, [], _∷_, _++_}
-use mathlib.Core.Bool.{true, false}
-use Prim.Native.Nat.{ℕ, _+_, _<_, _≤_, min}
+use mathlib.Core.Path.{_≡_, refl, sym, ap, _∙_}
+use mathlib.Core.List.{List, _++_}
+use mathlib.Core.Bool.{false}
+use Prim.Native.Nat.{ℕ, _+_, _<_, min}
 use native.Mathlib.Omega.{arith}
-use lib.Dec.{leb, ltb}
-use lib.ListN.{length, take, drop}
+use lib.ListN.{length, take}
 use lib.Seq.{drop-drop}
-use Rattle.std.proofs.shelf.Tests.{cond-false, and-left, and-right, lt-leb, le-ltb}
+use Rattle.std.proofs.shelf.Tests.{cond-false, and-left, lt-leb}
 use Rattle.bus.specs.Filled.{filled}
-use Rattle.bus.specs.Meaning.{Meaning}
 use Rattle.bus.specs.Over.{over, over-none}
 use Rattle.bus.proofs.Layers.{over-same, over-over}
 use Rattle.memory.specs.Words.{memoryMeaning}
 use Rattle.rom.specs.Boot.{bootImage, ShowsBoot}
-use Rattle.rom.specs.Table.{inRom, romMeaning, romShown, romRead, romWrite}
-use Rattle.panel.specs.Cells.{onPanel, panelMeaning, panelShown, panelRead, panelWrite}
+use Rattle.rom.specs.Table.{inRom, romMeaning, romRead, romWrite}
+use Rattle.panel.specs.Cells.{onPanel}
 use Rattle.rom.proofs.Roms.{boot-shown}
 use Rattle.panel.proofs.Handing.{table-long}
 use Rattle.panel.proofs.Panels.{held, below-shown}

@@ -1,18 +1,17 @@
 -- A memory keeps what is written.
-use mathlib.Core.Path.{_≡_, refl, sym, ap, _∙_}
+use mathlib.Core.Path.{_≡_, sym, ap, _∙_}
 use mathlib.Core.Logic.{_≢_}
 use mathlib.Core.List.{List, [], _∷_}
 use mathlib.Core.Bool.{Bool, true, false, cond}
-use Prim.Native.Nat.{ℕ, zero, suc, _+_, _*_, _/_, _%_, _^_, _<_, _≤_}
+use Prim.Native.Nat.{ℕ, zero, suc, _/_, _%_, _^_, _<_}
 use native.Mathlib.Nat.{mod-eq-of-lt}
 use native.Mathlib.Omega.{arith}
-use lib.ListN.{length, getD, List·getD-eq-default}
+use lib.ListN.{getD, List·getD-eq-default}
 use lib.Seq.{getD-set-same, getD-set-other}
 use Rattle.std.proofs.shelf.Lists.{set-past}
 use Rattle.bus.specs.Lanes.{inLane, merged, marked, allMarked}
 use Rattle.bus.specs.declared.Marks.{Marks}
 use Rattle.bus.proofs.Parting.{parted, joined-fits}
-use Rattle.memory.specs.Words.{memoryMeaning}
 use Rattle.memory.specs.Keeps.{Keeps}
 
 -- of two bytes by a test

@@ -1,15 +1,15 @@
 -- What the standard card holds after a field was stored at byte addresses 0 to 3.
 use mathlib.Core.Path.{_≡_, refl, sym, ap, _∙_}
 use mathlib.Core.List.{List, [], _∷_, _++_, append-assoc}
-use Prim.Native.Nat.{ℕ, suc, _+_, _*_, _/_, _%_, _^_, _<_}
+use Prim.Native.Nat.{ℕ, _+_, _%_, _^_, _<_}
 use native.Mathlib.Nat.{mod-eq-of-lt}
 use native.Mathlib.Omega.{arith}
-use lib.ListN.{length, getD, take, drop, replicate, length-replicate}
+use lib.ListN.{length, getD, take, replicate, length-replicate}
 use lib.Seq.{drop-at, take-all}
 use Rattle.std.proofs.shelf.Lists.{take-replicate}
 use Rattle.bus.specs.declared.Marks.{Marks}
 use Rattle.bus.specs.Calls.{after}
-use Rattle.bus.specs.Lanes.{inLane, joined, merged, placed, onlyMarked}
+use Rattle.bus.specs.Lanes.{inLane, merged, placed, onlyMarked}
 use Rattle.bus.specs.Over.{over-at}
 use Rattle.bus.proofs.Parting.{parted, joined-fits, replaced}
 use Rattle.memory.specs.Words.{memoryMeaning}

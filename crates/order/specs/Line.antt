@@ -1,8 +1,9 @@
 -- An order line ends with its quantity field: four bytes, each as two hexadecimal digits, with one blank between them.
-use mathlib.Core.List.{List, [], _∷_}
+use mathlib.Core.Path.{_≡_}
+use mathlib.Core.List.{List, [], _∷_, _++_}
 use mathlib.Core.Bool.{Bool, cond, _&&_}
-use Prim.Native.Nat.{ℕ, _+_, _-_, _*_}
-use lib.Dec.{leb, eqb}
+use Prim.Native.Nat.{ℕ, _+_, _-_, _*_, _/_, _%_, _<_}
+use lib.Dec.{leb, ltb, eqb}
 use lib.ListN.{length, getD, drop}
 use Rattle.std.specs.declared.option.Option.{Option}
 use Rattle.std.specs.declared.option.Option.the-variants.{None, Some}
@@ -35,3 +36,17 @@ fieldIn t =
 -- the field at the end of a line
 abbrev pub fieldOf : List ℕ → Option (List ℕ)
 fieldOf line = cond (leb 11 (length line)) (fieldIn (drop (length line - 11) line)) None
+
+-- a digit, a byte and a field as they are written, with the digits A to F
+abbrev pub writtenDigit : ℕ → ℕ
+writtenDigit d = cond (ltb d 10) (48 + d) (55 + d)
+
+abbrev pub writtenByte : ℕ → List ℕ
+writtenByte b = writtenDigit (b / 16) ∷ writtenDigit (b % 16) ∷ []
+
+abbrev pub writtenField : ℕ → ℕ → ℕ → ℕ → List ℕ
+writtenField a b c d = writtenByte a ++ (32 ∷ (writtenByte b ++ (32 ∷ (writtenByte c ++ (32 ∷ writtenByte d)))))
+
+-- Whatever text stands before it, a written field is read as the bytes that it writes.
+pub record ReadsWhatIsWritten : Type 0 where
+  pub reads : (text : List ℕ) (a b c d : ℕ) → a < 256 → b < 256 → c < 256 → d < 256 → fieldOf (text ++ writtenField a b c d) ≡ Some (a ∷ b ∷ c ∷ d ∷ [])

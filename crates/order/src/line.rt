@@ -1,7 +1,8 @@
 //! An order line ends with its quantity field, four bytes in hexadecimal, as in `BUY HAMU 00 00 01 00`.
 ghost use mathlib.Core.Path.{_≡_};
+ghost use lib.ListN.{length};
 ghost use Rattle.std.specs.Options.{mapped};
-ghost use Rattle.order.specs.Line.{digitOf, byteOf, fieldOf};
+ghost use Rattle.order.specs.Line.{digitOf, byteOf, fieldIn, fieldOf, ReadsWhatIsWritten};
 ghost use Rattle.order.specs.Quantity.{bytesOf};
 use crate::Field;
 
@@ -27,14 +28,11 @@ fn byte(high: u8, low: u8) -> Option<u8>
     Some(h * 16 + l)
 }
 
-/// The quantity field at the end of an order line, if the line ends with one.
-pub fn field(line: &[u8]) -> Option<Field>
-    ensures { λ r. ⌜ mapped bytesOf r ≡ fieldOf (now (line .entry)) ⌝ }
+// The field that eleven bytes of text write.
+fn read(text: &[u8]) -> Option<Field>
+    requires { ⌜ length (now text) ≡ 11 ⌝ }
+    ensures { λ r. ⌜ mapped bytesOf r ≡ fieldIn (now (text .entry)) ⌝ }
 {
-    if line.len() < TEXT_BYTES {
-        return None;
-    }
-    let text = line.split_at(line.len() - TEXT_BYTES).1;
     if text[2] != b' ' || text[5] != b' ' || text[8] != b' ' {
         return None;
     }
@@ -43,4 +41,21 @@ pub fn field(line: &[u8]) -> Option<Field>
     let b2 = byte(text[6], text[7])?;
     let b3 = byte(text[9], text[10])?;
     Some(Field { b0, b1, b2, b3 })
+}
+
+// What holds of every written field, for the contract of `field`. Nothing runs here.
+fn laws()
+    ensures { λ _. ⌜ ReadsWhatIsWritten ⌝ }
+{}
+
+/// The quantity field at the end of an order line, if the line ends with one.
+pub fn field(line: &[u8]) -> Option<Field>
+    ensures bytes { λ r. ⌜ mapped bytesOf r ≡ fieldOf (now (line .entry)) ⌝ }
+    ensures reads { λ _. ⌜ ReadsWhatIsWritten ⌝ }
+{
+    laws();
+    if line.len() < TEXT_BYTES {
+        return None;
+    }
+    read(line.split_at(line.len() - TEXT_BYTES).1)
 }

@@ -3,20 +3,19 @@ use mathlib.Core.Path.{_≡_, refl, sym, ap, subst, _∙_}
 use mathlib.Core.Logic.{_⊎_, inl, inr, ⊎-elim}
 use mathlib.Core.List.{List, [], _∷_, _++_}
 use mathlib.Core.Bool.{Bool, true, false, cond, _&&_}
-use Prim.Native.Nat.{ℕ, zero, suc, _+_, _-_, _*_, _%_, _≤_, _<_, min}
+use Prim.Native.Nat.{ℕ, suc, _+_, _-_, _*_, _%_, _≤_, _<_}
 use native.Mathlib.Numerals.{add-one}
 use native.Mathlib.Nat.{mod-eq-of-lt}
 use native.Mathlib.Omega.{arith}
-use lib.Dec.{leb, ltb, eqb}
+use lib.Dec.{ltb, eqb}
 use lib.ListN.{length, getD, take, drop, replicate, length-take, length-append, length-replicate, List·getD-append}
 use lib.Seq.{drop-cons, getD-take, length-take-le}
-use Rattle.std.proofs.shelf.Tests.{cases-bool, cases-lt, cases-eq, cond-true, cond-false, and-parts, and-from, and-left, and-right, ltb-true, leb-true, lt-ltb, le-ltb, le-leb, lt-leb, eq-eqb, ne-eqb, false≢true}
+use Rattle.std.proofs.shelf.Tests.{cases-bool, cases-lt, cases-eq, cond-true, cond-false, and-parts, and-from, and-left, and-right, ltb-true, leb-true, le-ltb, le-leb, lt-leb, eq-eqb, ne-eqb, false≢true}
 use Rattle.bus.specs.Calls.{Call, after, called, clocks, lasted}
 use Rattle.bus.specs.Calls.Call.{passes, reads, writes}
-use Rattle.bus.specs.declared.Marks.{Marks}
 use Rattle.bus.specs.Filled.{filled}
 use Rattle.bus.specs.Meaning.{Meaning}
-use Rattle.panel.specs.Cells.{onPanel, arrived, cell, takenAfter, aged, aged-none, aged-more, panelMeaning, newPanel}
+use Rattle.panel.specs.Cells.{onPanel, arrived, aged, aged-none, aged-more, panelMeaning, newPanel}
 use Rattle.panel.specs.HandsOut.{HandsOut, handed, handedBy}
 use Rattle.panel.proofs.Panels.{held, own-shown, own-read, below-read, own-write, below-write, both-passed}
 

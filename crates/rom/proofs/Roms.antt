@@ -1,12 +1,11 @@
 -- What the ROM's meaning is over a front of 512 words.
-use mathlib.Core.Path.{_≡_, refl, sym, ap, subst, _∙_}
+use mathlib.Core.Path.{_≡_, sym, ap, subst, _∙_}
 use mathlib.Core.List.{List, _++_}
 use mathlib.Core.Bool.{true, false}
 use Prim.Native.Nat.{ℕ, zero, suc, _+_, _-_, _%_, _^_, _<_, _≤_}
 use native.Mathlib.Nat.{mod-eq-of-lt}
 use native.Mathlib.Omega.{arith}
-use lib.Dec.{leb, ltb}
-use lib.ListN.{length, getD, drop, List·getD-append, getD-replicate, length-replicate}
+use lib.ListN.{length, getD, List·getD-append, getD-replicate, length-replicate}
 use lib.Seq.{drop-at}
 use Rattle.std.proofs.shelf.Tests.{cond-true, cond-false, and-parts, and-from, leb-true, ltb-true, le-leb, lt-ltb}
 use Rattle.bus.specs.declared.Marks.{Marks}

@@ -1,5 +1,4 @@
 -- What a ROM over a bus means: its contents are its 512 words, and then the contents below.
-use mathlib.Core.Path.{_≡_, refl}
 use mathlib.Core.List.{List}
 use mathlib.Core.Bool.{Bool, cond, _&&_}
 use Prim.Native.Nat.{ℕ, _+_, _-_, _%_, _^_, _<_}

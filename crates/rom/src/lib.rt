@@ -62,7 +62,7 @@ fn table(image: &[u32]) -> [u32; 512]
 // What holds of a ROM over every bus, for the contracts of the makers. Nothing runs here.
 fn laws<B: Bus>()
     ensures still { λ _. ⌜ (Still (B·Bus .meaning) → Still (romMeaning (B·Bus .meaning))) ⌝ }
-    ensures shows_boot { λ _. ⌜ ((below : List ℕ) → ShowsBoot (romMeaning (B·Bus .meaning)) (bootImage ++ below)) ⌝ }
+    ensures shows_boot { λ _. ⌜ ((h : List ℕ) → ShowsBoot (romMeaning (B·Bus .meaning)) (bootImage ++ h)) ⌝ }
 {}
 
 impl<B: Bus> Rom<B> {
@@ -81,7 +81,7 @@ impl<B: Bus> Rom<B> {
     pub fn boot(below: B) -> Rom<B>
         ensures table { λ r. ⌜ r .table ≡ bootImage ⌝ }
         ensures below { λ r. ⌜ r .below ≡ below ⌝ }
-        ensures shows_boot { λ _. ⌜ ((below : List ℕ) → ShowsBoot (romMeaning (B·Bus .meaning)) (bootImage ++ below)) ⌝ }
+        ensures shows_boot { λ _. ⌜ ((h : List ℕ) → ShowsBoot (romMeaning (B·Bus .meaning)) (bootImage ++ h)) ⌝ }
     {
         laws::<B>();
         let table = boot_image();

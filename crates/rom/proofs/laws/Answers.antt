@@ -1,6 +1,4 @@
-use mathlib.Core.Path.{refl}
 use Rattle.bus.specs.Over.{over-none}
-use Rattle.rom.specs.Boot.{bootImage}
 use Rattle.rom.proofs.Roms.{boot-shown}
 use Rattle.rom.proofs.laws.Needs as need
 
