@@ -43,11 +43,12 @@ memory-below = record {
 }
 
 -- the panel shows what the ROM below it shows
-pub new-shows-boot : (words feed : List ℕ) → ShowsBoot cardMeaning (newCard words feed)
-new-shows-boot words feed k lt =
+pub new-shows-boot : (h words feed : List ℕ) → h ≡ newCard words feed → ShowsBoot cardMeaning h
+new-shows-boot h words feed is k lt =
     let below = bootImage ++ take 262144 words in
-    sym (below-shown (romMeaning memoryMeaning) 0 0 (min 64 (length feed)) (filled 64 feed) below (0x3FF800 + k) (table-long feed) (off-panel (0x3FF800 + k) (omega arith)))
-    ∙ boot-shown memoryMeaning (take 262144 words) k lt
+    ap (λ x. cardMeaning .shown x (0x3FF800 + k)) is
+    ∙ sym (below-shown (romMeaning memoryMeaning) 0 0 (min 64 (length feed)) (filled 64 feed) below (0x3FF800 + k) (table-long feed) (off-panel (0x3FF800 + k) (omega arith)))
+    ∙ boot-shown memoryMeaning bootImage (take 262144 words) refl k lt
 
 -- the contents by its layers
 pub stacked : (s : Panel (Rom Memory)) (r : Rom Memory) (y : Memory) (count : ℕ) (bytes table words : List ℕ) →

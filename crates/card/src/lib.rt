@@ -1,13 +1,12 @@
 //! The card's bus: the panel over the boot ROM over a memory.
 ghost use mathlib.Core.Path.{_≡_};
-ghost use mathlib.Core.List.{List, []};
-ghost use mathlib.Core.Bool.{cond, _||_};
-ghost use Prim.Native.Nat.{ℕ};
-ghost use lib.Dec.{eqb, ltb};
+ghost use mathlib.Core.List.{[]};
 ghost use lib.ListN.{length, replicate};
 ghost use Rattle.std.specs.Of.Vec.{vec-items};
 ghost use Rattle.std.specs.Vec.{made};
-ghost use Rattle.refusal.specs.Heard.{heard, refused, nothing};
+ghost use Rattle.refusal.specs.Heard.{heard, firstOf};
+ghost use Rattle.memory.specs.Words.{wordsRefusal};
+ghost use Rattle.panel.specs.Cells.{feedRefusal};
 ghost use Rattle.rom.specs.Boot.{ShowsBoot};
 ghost use Rattle.card.specs.Stack.{cardMeaning, cardContents, newCard, MemoryBelow};
 use memory::Memory;
@@ -28,25 +27,18 @@ pub type Card = Panel<Rom<Memory>>;
 
 /// Whether a card may be made of these words and this feed: the words first.
 pub fn check(words: &[u32], feed: &[u8]) -> Result<(), Refusal>
-    ensures { λ r. ⌜ heard r ≡ cond (eqb (length (now (words .entry))) 0 || ltb 262144 (length (now (words .entry)))) (refused 1 1 0) (cond (ltb 64 (length (now (feed .entry)))) (refused 3 1 0) nothing) ⌝ }
+    ensures { λ r. ⌜ heard r ≡ firstOf (wordsRefusal (length (now (words .entry)))) (feedRefusal (length (now (feed .entry)))) ⌝ }
 {
     memory::check(words)?;
     panel::check(feed)
 }
 
-// What holds of every card, for the contract of the maker. Nothing runs here.
-fn laws()
-    ensures shows_boot { λ _. ⌜ ((words feed : List ℕ) → ShowsBoot cardMeaning (newCard words feed)) ⌝ }
-    ensures memory_below { λ _. ⌜ MemoryBelow ⌝ }
-{}
-
 /// A card with the first 262,144 of these words and the first 64 bytes of the feed.
 pub fn stack(words: Vec<u32>, feed: &[u8]) -> Card
     ensures contents { λ r. ⌜ cardContents r ≡ newCard (vec-items words) (now (feed .entry)) ⌝ }
-    ensures shows_boot { λ _. ⌜ ((words feed : List ℕ) → ShowsBoot cardMeaning (newCard words feed)) ⌝ }
+    ensures shows_boot { λ r. ⌜ ShowsBoot cardMeaning (cardContents r) ⌝ }
     ensures memory_below { λ _. ⌜ MemoryBelow ⌝ }
 {
-    laws();
     let memory = Memory::new(words);
     let rom = Rom::boot(memory);
     Panel::new(rom, feed)

@@ -1,13 +1,11 @@
 //! A memory of up to 262,144 words, as a bus.
 ghost use mathlib.Core.Path.{_≡_};
-ghost use mathlib.Core.Bool.{cond, _||_};
-ghost use lib.Dec.{eqb, ltb};
 ghost use lib.ListN.{length, take};
 ghost use Prim.Native.Nat.{_≤_};
 ghost use Rattle.std.specs.Of.Vec.{vec-len, vec-items};
 ghost use Rattle.bus.specs.Meaning.{Still};
-ghost use Rattle.refusal.specs.Heard.{heard, refused, nothing};
-ghost use Rattle.memory.specs.Words.{memoryMeaning};
+ghost use Rattle.refusal.specs.Heard.{heard};
+ghost use Rattle.memory.specs.Words.{wordsRefusal, memoryMeaning};
 ghost use Rattle.memory.specs.Keeps.{Keeps};
 use bus::Bus;
 use bus::Marks;
@@ -26,7 +24,7 @@ pub struct Memory {
 
 /// Whether a memory may be made of these words.
 pub fn check(words: &[u32]) -> Result<(), Refusal>
-    ensures { λ r. ⌜ heard r ≡ cond (eqb (length (now (words .entry))) 0 || ltb 262144 (length (now (words .entry)))) (refused 1 1 0) nothing ⌝ }
+    ensures { λ r. ⌜ heard r ≡ wordsRefusal (length (now (words .entry))) ⌝ }
 {
     if words.is_empty() || words.len() > MOST_WORDS {
         return Err(Refusal::MemoryWords);

@@ -3,7 +3,7 @@ use mathlib.Core.Path.{_≡_, refl, sym, ap, subst, _∙_}
 use mathlib.Core.Logic.{_⊎_, inl, inr, ⊎-elim}
 use mathlib.Core.List.{List, [], _∷_, _++_}
 use mathlib.Core.Bool.{Bool, true, false, cond, _&&_}
-use Prim.Native.Nat.{ℕ, suc, _+_, _-_, _*_, _%_, _≤_, _<_}
+use Prim.Native.Nat.{ℕ, suc, _+_, _-_, _*_, _%_, _≤_, _<_, min}
 use native.Mathlib.Numerals.{add-one}
 use native.Mathlib.Nat.{mod-eq-of-lt}
 use native.Mathlib.Omega.{arith}
@@ -15,9 +15,9 @@ use Rattle.bus.specs.Calls.{Call, after, called, clocks, lasted}
 use Rattle.bus.specs.Calls.Call.{passes, reads, writes}
 use Rattle.bus.specs.Filled.{filled}
 use Rattle.bus.specs.Meaning.{Meaning}
-use Rattle.panel.specs.Cells.{onPanel, arrived, aged, aged-none, aged-more, panelMeaning, newPanel}
+use Rattle.panel.specs.Cells.{onPanel, arrived, aged, aged-none, aged-more, panelMeaning}
 use Rattle.panel.specs.HandsOut.{HandsOut, handed, handedBy}
-use Rattle.panel.proofs.Panels.{held, own-shown, own-read, below-read, own-write, below-write, both-passed}
+use Rattle.panel.proofs.Panels.{held, same-held, own-shown, own-read, below-read, own-write, below-write, both-passed}
 
 cond-same : (b : Bool) (x y z : ℕ) → (b ≡ true → x ≡ y) → cond b x z ≡ cond b y z
 cond-same true x y z e = e refl
@@ -220,8 +220,13 @@ pub table-long : (fs : List ℕ) → length (filled 64 fs) ≡ 64
 unfolding filled
 table-long fs = length-take-le 64 (fs ++ replicate 64 0) (let zeros = length-replicate {A = ℕ} 64 0 in simp length-append (omega arith))
 
-pub new-hands-out : (m : Meaning) (fs q : List ℕ) → ((i : ℕ) → getD fs i 0 < 256) → HandsOut (panelMeaning m) (newPanel fs q) (take 64 fs)
-new-hands-out m fs q fit =
-    let P : ℕ → Type 0 = λ n. HandsOut (panelMeaning m) (held 0 0 n (filled 64 fs) q) (take 64 fs) in
+-- a new panel
+pub new-hands-out : (m : Meaning) (fs q : List ℕ) (age taken count : ℕ) (bytes : List ℕ) →
+    age ≡ 0 → taken ≡ 0 → count ≡ min 64 (length fs) → bytes ≡ filled 64 fs → ((i : ℕ) → getD fs i 0 < 256) →
+    HandsOut (panelMeaning m) (held age taken count bytes q) (take 64 fs)
+new-hands-out m fs q age taken count bytes a t c b fit =
+    let P : List ℕ → Type 0 = λ h. HandsOut (panelMeaning m) h (take 64 fs) in
     let few : length (take 64 fs) ≤ 64 = omega (arith, length-take 64 fs) in
-    subst P (length-take 64 fs) (hands-out m (take 64 fs) (filled 64 fs) (table-long fs) few (in-table fs fit) q)
+    let is : held 0 0 (length (take 64 fs)) (filled 64 fs) q ≡ held age taken count bytes q =
+    same-held (sym a) (sym t) (length-take 64 fs ∙ sym c) (sym b) refl in
+    subst P is (hands-out m (take 64 fs) (filled 64 fs) (table-long fs) few (in-table fs fit) q)

@@ -8,6 +8,8 @@ use native.Mathlib.Omega.{arith}
 use lib.Dec.{leb, ltb, eqb}
 use lib.ListN.{length, getD, set, take, drop}
 use Rattle.std.proofs.shelf.Tests.{cond-both}
+use Rattle.std.specs.declared.option.Option.{Option}
+use Rattle.refusal.specs.Heard.{Told, refused, nothing}
 use Rattle.bus.specs.declared.Marks.{Marks}
 use Rattle.bus.specs.Filled.{filled}
 use Rattle.bus.specs.Meaning.{Meaning}
@@ -16,6 +18,10 @@ use Rattle.bus.specs.Over.{over, over-none, over-more}
 -- a new panel over a bus with these contents: age 0, nothing taken, the first 64 bytes of a feed
 abbrev pub newPanel : List ℕ → List ℕ → List ℕ
 newPanel feed below = 0 ∷ 0 ∷ min 64 (length feed) ∷ (filled 64 feed ++ below)
+
+-- what is told of a feed of so many bytes
+abbrev pub feedRefusal : ℕ → Option Told
+feedRefusal n = cond (ltb 64 n) (refused 3 1 0) nothing
 
 -- the panel's own word addresses, 16 cells from 3FFFF0H
 abbrev pub onPanel : ℕ → Bool

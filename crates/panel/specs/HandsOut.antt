@@ -2,13 +2,13 @@
 use mathlib.Core.Path.{_≡_}
 use mathlib.Core.List.{List, [], _∷_, _++_}
 use mathlib.Core.Bool.{cond, _&&_}
-use Prim.Native.Nat.{ℕ, _*_, _≤_, _<_}
+use Prim.Native.Nat.{ℕ, _*_, _≤_}
 use lib.Dec.{eqb}
 use lib.ListN.{length, getD, take}
 use Rattle.bus.specs.Meaning.{Meaning}
 use Rattle.bus.specs.Calls.{Call, after, called, clocks}
 use Rattle.bus.specs.Calls.Call.{passes, reads, writes}
-use Rattle.panel.specs.Cells.{arrived, newPanel, panelMeaning}
+use Rattle.panel.specs.Cells.{arrived}
 
 -- the byte that one call hands out: a read of cell 2 while cell 3 shows 1
 abbrev pub handedBy : Meaning → List ℕ → Call → List ℕ
@@ -33,7 +33,3 @@ pub record HandsOut (m : Meaning) (h feed : List ℕ) : Type 0 where
       ≡ cond (arrived (clocks cs) (length (handed m h cs)) (length feed)) (getD feed (length (handed m h cs)) 0) 0
   pub shows-ready : (cs : List Call) →
       m .shown (after m h cs) 0x3FFFF3 ≡ cond (arrived (clocks cs) (length (handed m h cs)) (length feed)) 1 0
-
--- So does every new panel: over any contents below, with the first 64 bytes of any feed.
-abbrev pub HandsOutEveryFeed : Meaning → Type 0
-HandsOutEveryFeed m = (feed below : List ℕ) → ((k : ℕ) → getD feed k 0 < 256) → HandsOut (panelMeaning m) (newPanel feed below) (take 64 feed)

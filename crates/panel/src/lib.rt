@@ -3,14 +3,12 @@ mod queue;
 
 ghost use mathlib.Core.Path.{_≡_};
 ghost use mathlib.Core.List.{_∷_, _++_};
-ghost use mathlib.Core.Bool.{cond};
 ghost use Prim.Native.Nat.{_%_, _^_, min};
-ghost use lib.Dec.{ltb};
-ghost use lib.ListN.{length};
+ghost use lib.ListN.{length, take};
 ghost use Rattle.bus.specs.Filled.{filled};
-ghost use Rattle.refusal.specs.Heard.{heard, refused, nothing};
-ghost use Rattle.panel.specs.Cells.{onPanel, panelMeaning};
-ghost use Rattle.panel.specs.HandsOut.{HandsOutEveryFeed};
+ghost use Rattle.refusal.specs.Heard.{heard};
+ghost use Rattle.panel.specs.Cells.{feedRefusal, onPanel, panelMeaning};
+ghost use Rattle.panel.specs.HandsOut.{HandsOut};
 use bus::Bus;
 use bus::Marks;
 use queue::Feed;
@@ -31,18 +29,13 @@ pub struct Panel<B> {
 
 /// Whether a panel may be made with this feed.
 pub fn check(feed: &[u8]) -> Result<(), Refusal>
-    ensures { λ r. ⌜ heard r ≡ cond (ltb 64 (length (now (feed .entry)))) (refused 3 1 0) nothing ⌝ }
+    ensures { λ r. ⌜ heard r ≡ feedRefusal (length (now (feed .entry))) ⌝ }
 {
     if feed.len() > MOST_BYTES {
         return Err(Refusal::FeedBytes);
     }
     Ok(())
 }
-
-// What holds of a panel over every bus, for the contract of the maker. Nothing runs here.
-fn laws<B: Bus>()
-    ensures { λ _. ⌜ HandsOutEveryFeed (B·Bus .meaning) ⌝ }
-{}
 
 impl<B: Bus> Panel<B> {
     /// A panel of age 0 with the first 64 bytes of the feed.
@@ -52,9 +45,8 @@ impl<B: Bus> Panel<B> {
         ensures count { λ r. ⌜ r .feed .count ≡ min 64 (length (now (feed .entry))) ⌝ }
         ensures bytes { λ r. ⌜ r .feed .bytes ≡ filled 64 (now (feed .entry)) ⌝ }
         ensures below { λ r. ⌜ r .below ≡ below ⌝ }
-        ensures hands_out { λ _. ⌜ HandsOutEveryFeed (B·Bus .meaning) ⌝ }
+        ensures hands_out { λ r. ⌜ HandsOut (panelMeaning (B·Bus .meaning)) (r .feed .age ∷ r .feed .taken ∷ r .feed .count ∷ (r .feed .bytes ++ B·Bus .contents (r .below))) (take 64 (now (feed .entry))) ⌝ }
     {
-        laws::<B>();
         Panel {
             feed: Feed::new(feed),
             below,

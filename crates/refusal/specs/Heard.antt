@@ -29,3 +29,8 @@ refused number layer place = Some (record { number = number; layer = layer; plac
 
 abbrev pub nothing : Option Told
 nothing = None
+
+-- of two checks in one call, what is heard of the first, else of the second
+abbrev pub firstOf : Option Told → Option Told → Option Told
+firstOf None second = second
+firstOf (Some first) second = Some first

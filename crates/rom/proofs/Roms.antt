@@ -45,9 +45,10 @@ boot-fits (suc k) lt = let z : getD bootImage (suc k) 0 ≡ 0 = getD-replicate 5
 boot-long : length bootImage ≡ 512
 boot-long = ap suc (length-replicate {A = ℕ} 511 0)
 
-pub boot-shown : (m : Meaning) (q : List ℕ) → ShowsBoot (romMeaning m) (bootImage ++ q)
-boot-shown m q k lt =
+pub boot-shown : (m : Meaning) (p q : List ℕ) → p ≡ bootImage → ShowsBoot (romMeaning m) (p ++ q)
+boot-shown m p q is k lt =
     let P : ℕ → Type 0 = λ j. getD bootImage j 0 < 2 ^ 32 in
     let k-is : k ≡ 0x3FF800 + k - 0x3FF800 = omega arith in
     let own : inRom (0x3FF800 + k) ≡ true = and-from _ _ (le-leb 0x3FF800 (0x3FF800 + k) (omega arith)) (lt-ltb (0x3FF800 + k) 0x3FFA00 (omega arith)) in
-    sym (own-shown m bootImage q (0x3FF800 + k) boot-long own (subst P k-is (boot-fits k lt))) ∙ sym (ap (λ j. getD bootImage j 0) k-is)
+    ap (λ t. romShown m (t ++ q) (0x3FF800 + k)) is
+    ∙ sym (own-shown m bootImage q (0x3FF800 + k) boot-long own (subst P k-is (boot-fits k lt))) ∙ sym (ap (λ j. getD bootImage j 0) k-is)

@@ -6,9 +6,15 @@ use native.Mathlib.Omega.{arith}
 use lib.Dec.{leb, ltb}
 use lib.ListN.{getD, drop}
 use Rattle.std.proofs.shelf.Tests.{cond-both}
+use Rattle.std.specs.declared.option.Option.{Option}
+use Rattle.refusal.specs.Heard.{Told, refused, nothing}
 use Rattle.bus.specs.declared.Marks.{Marks}
-use Rattle.bus.specs.Meaning.{Meaning}
+use Rattle.bus.specs.Meaning.{Meaning, Still}
 use Rattle.bus.specs.Over.{over, over-none, over-more}
+
+-- what is told of an image of so many words
+abbrev pub imageRefusal : ℕ → Option Told
+imageRefusal n = cond (ltb 512 n) (refused 2 1 0) nothing
 
 -- the ROM's own word addresses, 512 from 3FF800H
 abbrev pub inRom : ℕ → Bool
@@ -42,3 +48,7 @@ romMeaning m = record {
   none = λ h. over-none 512 (λ below. m .passed below 0) (m .none) h;
   more = λ h a b. over-more 512 (λ x. m .passed x a) (λ x. m .passed x b) (λ x. m .passed x (a + b)) (λ x. m .more x a b) h;
 }
+
+-- a ROM over a still bus is still
+abbrev pub StaysStill : Meaning → Type 0
+StaysStill m = Still m → Still (romMeaning m)

@@ -1,15 +1,12 @@
 //! A ROM of 512 words over any bus.
 ghost use mathlib.Core.Path.{_≡_};
-ghost use mathlib.Core.List.{List, _++_};
-ghost use mathlib.Core.Bool.{cond};
-ghost use Prim.Native.Nat.{ℕ, _%_, _^_};
-ghost use lib.Dec.{ltb};
+ghost use mathlib.Core.List.{_++_};
+ghost use Prim.Native.Nat.{_%_, _^_};
 ghost use lib.ListN.{length};
 ghost use Rattle.bus.specs.Filled.{filled};
-ghost use Rattle.bus.specs.Meaning.{Still};
-ghost use Rattle.refusal.specs.Heard.{heard, refused, nothing};
+ghost use Rattle.refusal.specs.Heard.{heard};
 ghost use Rattle.rom.specs.Boot.{bootImage, ShowsBoot};
-ghost use Rattle.rom.specs.Table.{inRom, romMeaning};
+ghost use Rattle.rom.specs.Table.{imageRefusal, inRom, romMeaning, StaysStill};
 use bus::Bus;
 use bus::Marks;
 use refusal::Refusal;
@@ -32,7 +29,7 @@ pub struct Rom<B> {
 
 /// Whether a ROM may be made of this image.
 pub fn check(image: &[u32]) -> Result<(), Refusal>
-    ensures { λ r. ⌜ heard r ≡ cond (ltb 512 (length (now (image .entry)))) (refused 2 1 0) nothing ⌝ }
+    ensures { λ r. ⌜ heard r ≡ imageRefusal (length (now (image .entry))) ⌝ }
 {
     if image.len() > WORDS {
         return Err(Refusal::ImageWords);
@@ -59,10 +56,9 @@ fn table(image: &[u32]) -> [u32; 512]
     words
 }
 
-// What holds of a ROM over every bus, for the contracts of the makers. Nothing runs here.
+// What holds of a ROM over every bus, for the contract of `Rom::new`. Nothing runs here.
 fn laws<B: Bus>()
-    ensures still { λ _. ⌜ (Still (B·Bus .meaning) → Still (romMeaning (B·Bus .meaning))) ⌝ }
-    ensures shows_boot { λ _. ⌜ ((h : List ℕ) → ShowsBoot (romMeaning (B·Bus .meaning)) (bootImage ++ h)) ⌝ }
+    ensures { λ _. ⌜ StaysStill (B·Bus .meaning) ⌝ }
 {}
 
 impl<B: Bus> Rom<B> {
@@ -70,7 +66,7 @@ impl<B: Bus> Rom<B> {
     pub fn new(below: B, image: &[u32]) -> Rom<B>
         ensures table { λ r. ⌜ r .table ≡ filled 512 (now (image .entry)) ⌝ }
         ensures below { λ r. ⌜ r .below ≡ below ⌝ }
-        ensures still { λ _. ⌜ (Still (B·Bus .meaning) → Still (romMeaning (B·Bus .meaning))) ⌝ }
+        ensures still { λ _. ⌜ StaysStill (B·Bus .meaning) ⌝ }
     {
         laws::<B>();
         let table = table(image);
@@ -81,9 +77,8 @@ impl<B: Bus> Rom<B> {
     pub fn boot(below: B) -> Rom<B>
         ensures table { λ r. ⌜ r .table ≡ bootImage ⌝ }
         ensures below { λ r. ⌜ r .below ≡ below ⌝ }
-        ensures shows_boot { λ _. ⌜ ((h : List ℕ) → ShowsBoot (romMeaning (B·Bus .meaning)) (bootImage ++ h)) ⌝ }
+        ensures shows_boot { λ r. ⌜ ShowsBoot (romMeaning (B·Bus .meaning)) (r .table ++ B·Bus .contents (r .below)) ⌝ }
     {
-        laws::<B>();
         let table = boot_image();
         Rom { table, below }
     }

@@ -1,9 +1,5 @@
 use Rattle.bus.specs.Over.{over-none}
-use Rattle.rom.proofs.Roms.{boot-shown}
 use Rattle.rom.proofs.laws.Needs as need
 
 pub returns : need.returns
-returns g c = record {
-  still = λ still h n. over-none 512 (λ below. g .B·Bus .meaning .passed below n) (λ below. still below n) h;
-  shows-boot = λ below. boot-shown (g .B·Bus .meaning) below;
-}
+returns g c = λ still h n. over-none 512 (λ below. g .B·Bus .meaning .passed below n) (λ below. still below n) h
