@@ -1,16 +1,16 @@
 -- A written field is read as the bytes that it writes.
-use mathlib.Core.Path.{_≡_, refl, sym, ap, _∙_}
+use mathlib.Core.Path.{_≡_, ap, _∙_}
 use mathlib.Core.Logic.{⊎-elim}
-use mathlib.Core.List.{List, [], _∷_, _++_}
-use mathlib.Core.Bool.{true, false, cond}
-use Prim.Native.Nat.{ℕ, _+_, _-_, _*_, _/_, _%_, _<_, _≤_}
+use mathlib.Core.List.{[], _∷_, _++_}
+use mathlib.Core.Bool.{true, false}
+use Prim.Native.Nat.{ℕ, _+_, _-_, _*_, _/_, _%_, _<_}
 use native.Mathlib.Omega.{arith}
-use lib.Dec.{leb, ltb}
-use lib.ListN.{length, drop, length-append}
+use lib.Dec.{leb}
+use lib.ListN.{length, length-append}
 use lib.Seq.{drop-at}
 use Rattle.std.specs.declared.option.Option.the-variants.{Some}
 use Rattle.std.proofs.shelf.Tests.{cases-lt, cond-true, cond-false, and-from, and-right, le-leb, lt-leb, lt-ltb, le-ltb}
-use Rattle.order.specs.Line.{between, then, digitOf, byteOf, fieldIn, fieldOf, writtenDigit, writtenByte, writtenField, ReadsWhatIsWritten}
+use Rattle.order.specs.Line.{between, then, digitOf, byteOf, fieldIn, writtenDigit, writtenField, ReadsWhatIsWritten}
 
 -- one digit
 digit-back : (d : ℕ) → d < 16 → digitOf (writtenDigit d) ≡ Some d
