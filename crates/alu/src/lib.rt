@@ -1,4 +1,6 @@
 //! Register operations and flags: everything that a register instruction does but multiply and divide.
+#![tactic(auto)]
+
 mod sums;
 mod words;
 

@@ -1,4 +1,6 @@
 //! The bus of the card: what any bus shows, and how its contents change.
+#![tactic(auto)]
+
 pub mod lanes;
 
 ghost use Rattle.std.specs.Prelude.{◌≡◌, ℕ, ◌%◌, ◌^◌, List};

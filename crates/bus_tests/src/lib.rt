@@ -1,4 +1,6 @@
 //! The bus and its layers at their edges. What these tests show on examples, the contracts of the layers say of every input.
+#![tactic(auto)]
+
 #[cfg(test)]
 mod memories;
 #[cfg(test)]

@@ -1,4 +1,6 @@
 //! The card's bus: the panel over the boot ROM over a memory.
+#![tactic(auto)]
+
 ghost use Rattle.std.specs.Prelude.{◌≡◌, [], length, replicate, IfOk};
 ghost use Rattle.refusal.specs.Heard.{heard, first_of};
 ghost use Rattle.memory.specs.Words.{words_refusal};

@@ -1,4 +1,6 @@
 //! The core of the card: held and live, run by clock and by whole instructions.
+#![tactic(auto)]
+
 mod checks;
 mod clocking;
 mod finishing;

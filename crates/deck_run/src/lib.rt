@@ -1,4 +1,6 @@
 //! A whole deck run in one call.
+#![tactic(auto)]
+
 ghost use Rattle.std.specs.Prelude.{◌≡◌, [], length, replicate, IfOk};
 ghost use Rattle.refusal.specs.Heard.{outcome};
 ghost use Rattle.machine.specs.Laws.{Law};

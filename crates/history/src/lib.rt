@@ -1,4 +1,6 @@
 //! Histories: calls made of a live core since its release, kept with the answer to each.
+#![tactic(auto)]
+
 pub mod watching;
 
 ghost use Rattle.std.specs.Prelude.{◌≡◌, ◌+◌, ◌-◌, ◌<◌, ◌≤◌, min, [], ◌∷◌, ◌++◌, length, take, drop};

@@ -1,4 +1,6 @@
 //! Instruction words: their fields, their kinds and clocks, where loads and stores go, and what branches do.
+#![tactic(auto)]
+
 mod table;
 
 ghost use Rattle.std.specs.Prelude.{◌≡◌, ◌<◌, ◌≤◌};

@@ -1,4 +1,6 @@
 //! The state of a core, and what holds of every run of it: the two machines and the laws of histories are in `specs/`.
+#![tactic(auto)]
+
 pub mod laws;
 
 use isa::Flags;

@@ -1,4 +1,6 @@
 //! A memory of up to 262,144 words, as a bus.
+#![tactic(auto)]
+
 ghost use Rattle.std.specs.Prelude.{◌≡◌, ◌≤◌, length, take, vec_len};
 ghost use Rattle.bus.specs.Meaning.{Still};
 ghost use Rattle.refusal.specs.Heard.{heard};

@@ -1,4 +1,6 @@
 //! An order's quantity field: as its line writes it, as it is sent, and as the card stores and loads it.
+#![tactic(auto)]
+
 pub mod line;
 
 ghost use Rattle.std.specs.Prelude.{◌≡◌, ◌/◌, ◌%◌, ◌^◌, IfOk};

@@ -1,4 +1,6 @@
 //! Reads order lines from standard input and tells, step by step, what the card makes of each quantity field.
+#![tactic(auto)]
+
 use anyhow::anyhow;
 use card::STANDARD_WORDS;
 use order::{ByteStore, Field, Finding, line, receive};

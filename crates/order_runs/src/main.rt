@@ -1,5 +1,7 @@
 //! Reads order lines from standard input and runs the house's checking program on each, by clock and by leap: on which clock the verdict was stored,
 //! which quantity was read, and that both runs agree.
+#![tactic(auto)]
+
 mod house;
 
 use anyhow::anyhow;

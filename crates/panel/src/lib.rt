@@ -1,4 +1,6 @@
 //! The panel: 16 cells over any bus, through which a feed of bytes comes in.
+#![tactic(auto)]
+
 mod queue;
 
 ghost use Rattle.std.specs.Prelude.{◌≡◌, ◌%◌, ◌^◌, min, ◌∷◌, ◌++◌, length, take};

@@ -4,6 +4,8 @@
 //!
 //! a deck of each text so many times, loaded over so many words that are 0, registers that are 0, and so many lines that are 255.
 //! In a text `\n` is a newline and `\xHH` the byte with these two hexadecimal digits.
+#![tactic(auto)]
+
 use anyhow::anyhow;
 use deck::loading::load;
 use std::alloc::AllocError;

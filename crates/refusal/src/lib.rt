@@ -1,4 +1,6 @@
 //! What a caller hears when a call is refused: a number, the layer that refuses, and a place.
+#![tactic(auto)]
+
 ghost use Rattle.std.specs.Prelude.{◌≡◌};
 ghost use Rattle.refusal.specs.Heard.{told};
 

@@ -1,4 +1,6 @@
 //! The card's instruction set: what each instruction word does to the registers and asks of the bus.
+#![tactic(auto)]
+
 mod access;
 mod units;
 

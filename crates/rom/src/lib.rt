@@ -1,4 +1,6 @@
 //! A ROM of 512 words over any bus.
+#![tactic(auto)]
+
 ghost use Rattle.std.specs.Prelude.{◌≡◌, ◌%◌, ◌^◌, ◌++◌, length};
 ghost use Rattle.bus.specs.Filled.{filled};
 ghost use Rattle.refusal.specs.Heard.{heard};

@@ -1,5 +1,7 @@
 //! Runs a deck from standard input and prints its listing: a line for each instruction that finished, then the leap's three numbers; or, of a refused
 //! deck, the refusal.
+#![tactic(auto)]
+
 use anyhow::anyhow;
 use deck_run::Failure;
 use machine::Record;

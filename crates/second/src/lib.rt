@@ -3,6 +3,8 @@
 //! It shares nothing with the other: one flat state holds core, memory, boot ROM and panel, and one step takes it over a clock. A
 //! multiply or divide is reckoned as a whole on its last clock, since its operands do not change while it waits. It is proved to be safe
 //! and to end, and not that it follows the documents: that is what the comparison is for.
+#![tactic(auto)]
+
 ghost use Rattle.std.specs.Prelude.{◌≡◌, ◌/◌, ◌%◌, ◌<◌, true, false, length, Some, None, ◌==◌, nat_lt, slice_index, slice_set};
 
 mod rows;

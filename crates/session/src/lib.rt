@@ -1,4 +1,6 @@
 //! The two moved types at work: a held core is preset, released, clocked, held again and read.
+#![tactic(auto)]
+
 ghost use Rattle.std.specs.Prelude.{◌≡◌};
 ghost use Rattle.refusal.specs.Heard.{outcome};
 ghost use Rattle.machine.specs.Histories.{lines_refused};

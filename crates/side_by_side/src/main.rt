@@ -1,5 +1,7 @@
 //! Runs two machines on many programs by chance, and compares them: the core of crate `cpu`, by clock, by leap and by both in turns, and the
 //! interpreter of crate `second`, which shares no code with it. Damaged lines and decks are compared by what they are refused for.
+#![tactic(auto)]
+
 mod cases;
 mod chance;
 mod course;

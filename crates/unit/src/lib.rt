@@ -1,4 +1,6 @@
 //! Units that work step by step: what each takes and gives, one text of waiting for every unit, and the same answers at once.
+#![tactic(auto)]
+
 pub mod divider;
 pub mod laws;
 pub mod multiplier;

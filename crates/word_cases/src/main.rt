@@ -15,6 +15,8 @@
 //!     pair WORD B C LEAD TOTAL          a multiply or divide: its pair after a wait of TOTAL clocks
 //!
 //! Any other line ends the run with a message.
+#![tactic(auto)]
+
 use anyhow::anyhow;
 
 mod units;
