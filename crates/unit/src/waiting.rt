@@ -7,7 +7,7 @@ use crate::StepUnit;
 
 /// The pair after one more clock, at step number `s`, where `lead` clocks come before the unit's first step.
 pub fn carried<U: StepUnit>(lead: u16, operands: U::Operands, s: u16, pair: U::Pair) -> U::Pair
-    ensures { result ≡ carried (started operands) (stepped operands) count lead s pair }
+    ensures { result ≡ carried (U.started operands) (U.stepped operands) U.count lead s pair }
 {
     let from = if s == 0 { U::start(operands) } else { pair };
     if lead <= s && s - lead < U::counted() {
@@ -26,7 +26,7 @@ pub fn goes_on(step: u16, total: u16) -> bool
 
 /// All the steps of a unit at once.
 pub fn run<U: StepUnit>(operands: U::Operands) -> U::Answer
-    ensures { result ≡ answer operands (after (stepped operands) (started operands) count) }
+    ensures { result ≡ U.answer operands (after (U.stepped operands) (U.started operands) U.count) }
 {
     let mut pair = U::start(operands);
     for s in 0..U::counted() {
@@ -37,5 +37,5 @@ pub fn run<U: StepUnit>(operands: U::Operands) -> U::Answer
 
 /// The waiting serves every unit: clock by clock it makes each step once and in order, and it ends with the pair of all steps. Nothing runs here.
 pub fn waiting_serves<U: StepUnit>(operands: U::Operands)
-    ensures { Waits (started operands) (stepped operands) count }
+    ensures { Waits (U.started operands) (U.stepped operands) U.count }
 {}

@@ -19,6 +19,6 @@ returns c =
     new.age new.taken count bytes new.below boot.table boot.below words in
     record {
       contents = contents;
-      shows-boot = new_shows_boot (card_contents c.new.result) given feed contents;
+      shows_boot = new_shows_boot (card_contents c.new.result) given feed contents;
       memory_below = memory_below;
     }

@@ -15,10 +15,10 @@ returns c =
     let rs : List ℕ = c.args.registers in
     let start : start_with card_meaning rs (card_contents c.stack-bus.result) ≡ start_with card_meaning rs (new_card (vec_items c.args.words) []) =
     ap (start_with card_meaning rs) c.stack-bus.ensures.contents in
-    let done = c.leap-once.ensures in
+    let done = c.leap_once.ensures in
     record {
       answer = done.answer ∙ ap (leap_answer card_meaning (length t) ls) start;
       trace = done.trace ∙ ap (λ (s : State). overlaid (leap_records card_meaning (length t) ls s) t) start;
-      history = subst (λ (s : State). Alone card_meaning s (leap_call ls (length t) c.leap-once.new.trace c.leap-once.result)) start done.history;
+      history = subst (λ (s : State). Alone card_meaning s (leap_call ls (length t) c.leap_once.new.trace c.leap_once.result)) start done.history;
       law = subst (λ (s : State). Law card_meaning card pace s) start done.law;
     }

@@ -18,7 +18,7 @@ returns g c =
     let t : List Record = c.args.trace.now in
     let live = c.release-live in
     let start : state live.result h ≡ start_with m c.args.registers h =
-    λ i. record { core = (live.ensures.core ∙ ap (λ (x : Held). released m x h) c.with-registers.ensures) i; contents = h } in
+    λ i. record { core = (live.ensures.core ∙ ap (λ (x : Held). released m x h) c.with_registers.ensures) i; contents = h } in
     let end : State = state c.leap.new.self (g.B.Bus.contents c.leap.new.bus) in
     record {
       answer = c.leap.ensures.answer ∙ ap (leap_answer m (length t) ls) start;

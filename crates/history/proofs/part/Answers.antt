@@ -5,9 +5,9 @@ use Rattle.history.proofs.part.Goals as goal
 pub returns : goal.returns
 returns c =
     let ls = c.args.lines.now in
-    let rest = c.split-at.result.1.now in
+    let rest = c.split_at.result.1.now in
     let q = c.args.request in
-    c.split-at-2.ensures.front
+    c.split_at-2.ensures.front
     ∙ ap (λ (i : ℕ). take i rest) c.min-count.ensures
     ∙ take_min q.count rest
-    ∙ ap (take q.count) (c.split-at.ensures.back ∙ ap (λ (i : ℕ). drop i ls) c.min-first.ensures ∙ drop_min q.first ls)
+    ∙ ap (take q.count) (c.split_at.ensures.back ∙ ap (λ (i : ℕ). drop i ls) c.min-first.ensures ∙ drop_min q.first ls)

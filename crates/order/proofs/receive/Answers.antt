@@ -10,9 +10,9 @@ returns c =
     let f1 : f.b1 < 256 = search rules in
     let f2 : f.b2 < 256 = search rules in
     let f3 : f.b3 < 256 = search rules in
-    let h = card_contents c.in-ok-bus.bus in
-    let new = c.in-ok-bus.ensures in
-    let got = c.pass-through-finding.ensures in
+    let h = card_contents c.in_ok-bus.bus in
+    let new = c.in_ok-bus.ensures in
+    let got = c.pass_through-finding.ensures in
     record {
       word = got.word ∙ word_received f.b0 f.b1 f.b2 f.b3 f0 f1 f2 f3 h new;
       bytes = same_field _ _ (got.bytes ∙ bytes_received f.b0 f.b1 f.b2 f.b3 f0 f1 f2 f3 h new);

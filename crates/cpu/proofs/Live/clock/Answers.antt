@@ -14,7 +14,7 @@ returns-in-Some g c =
     let m = g.B.Bus.meaning in
     let ls = c.args.lines.now in
     let s : State = state c.args.self.now (g.B.Bus.contents c.args.bus.now) in
-    let h = sym c.lines-fault.ensures.answer ∙ c.in-Some.is in
+    let h = sym c.lines_fault.ensures.answer ∙ c.in-Some.is in
     record {
       answer = search rules;
       core = search rules;
@@ -28,14 +28,14 @@ returns-in-None g c =
     let m = g.B.Bus.meaning in
     let ls = c.args.lines.now in
     let s : State = state c.args.self.now (g.B.Bus.contents c.args.bus.now) in
-    let e : State = state c.clock-lines.new.self (g.B.Bus.contents c.clock-lines.new.bus) in
-    let h = sym c.lines-fault.ensures.answer ∙ c.in-None.is in
-    let o = c.clock-lines.ensures in
+    let e : State = state c.clock_lines.new.self (g.B.Bus.contents c.clock_lines.new.bus) in
+    let h = sym c.lines_fault.ensures.answer ∙ c.in-None.is in
+    let o = c.clock_lines.ensures in
     let w : e ≡ run m card pace ls s = λ i. record { core = o.core i; contents = o.contents i } in
     record {
       answer = search rules;
       core = search rules;
       contents = search rules;
-      refusal = lines_heard_lem {X = ℕ × ℕ} (finished m card pace ls s, stalls ls) ls (Ok c.clock-lines.result) (search rules);
-      step = clocked_as m ls s e c.clock-lines.result.0 c.clock-lines.result.1 h o.finished o.stalls w;
+      refusal = lines_heard_lem {X = ℕ × ℕ} (finished m card pace ls s, stalls ls) ls (Ok c.clock_lines.result) (search rules);
+      step = clocked_as m ls s e c.clock_lines.result.0 c.clock_lines.result.1 h o.finished o.stalls w;
     }

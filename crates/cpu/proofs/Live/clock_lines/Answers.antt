@@ -21,13 +21,13 @@ loop-line-preserved g c =
     let x : ℕ = get_or xs i 0 in
     let s : State = state c.args.self.now (g.B.Bus.contents c.args.bus.now) in
     let inv = c.loop-line.invariant in
-    let e : state c.clock-line.new.self (g.B.Bus.contents c.clock-line.new.bus) ≡ clock m card pace x (state c.loop-line.self (g.B.Bus.contents c.loop-line.bus)) =
-    λ j. record { core = c.clock-line.ensures.core j; contents = c.clock-line.ensures.contents j } in (
-      omega (arith, inv.0, byte_most c.clock-line.result),
-      omega (arith, inv.1, byte_most c.is-stalled.result),
+    let e : state c.clock_line.new.self (g.B.Bus.contents c.clock_line.new.bus) ≡ clock m card pace x (state c.loop-line.self (g.B.Bus.contents c.loop-line.bus)) =
+    λ j. record { core = c.clock_line.ensures.core j; contents = c.clock_line.ensures.contents j } in (
+      omega (arith, inv.0, byte_most c.clock_line.result),
+      omega (arith, inv.1, byte_most c.is_stalled.result),
       e ∙ ap (clock m card pace x) inv.2 ∙ sym (run_more m xs i h s),
-      ap₂ ◌+◌ inv.3 (byte_one c.clock-line.result ∙ ap one (c.clock-line.ensures.answer ∙ ap (ends m card pace x) inv.2)) ∙ sym (finished-more m xs i h s),
-      ap₂ ◌+◌ inv.4 (byte_one c.is-stalled.result ∙ ap one c.is-stalled.ensures) ∙ sym (stalls-more m xs i h),
+      ap₂ ◌+◌ inv.3 (byte_one c.clock_line.result ∙ ap one (c.clock_line.ensures.answer ∙ ap (ends m card pace x) inv.2)) ∙ sym (finished-more m xs i h s),
+      ap₂ ◌+◌ inv.4 (byte_one c.is_stalled.result ∙ ap one c.is_stalled.ensures) ∙ sym (stalls-more m xs i h),
     )
 
 pub returns : goal.returns

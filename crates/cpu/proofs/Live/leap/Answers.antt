@@ -14,7 +14,7 @@ returns-in-Some g c =
     let ls = c.args.lines.now in
     let t = c.args.trace.now in
     let s : State = state c.args.self.now (g.B.Bus.contents c.args.bus.now) in
-    let h = sym c.leap-fault.ensures.answer ∙ c.in-Some.is in
+    let h = sym c.leap_fault.ensures.answer ∙ c.in-Some.is in
     record {
       answer = search rules;
       core = search rules;
@@ -30,15 +30,15 @@ returns-in-None g c =
     let ls = c.args.lines.now in
     let t = c.args.trace.now in
     let s : State = state c.args.self.now (g.B.Bus.contents c.args.bus.now) in
-    let e : State = record { core = record { context = c.leap-lines.new.context; waiting = rest }; contents = g.B.Bus.contents c.leap-lines.new.bus } in
-    let h = sym c.leap-fault.ensures.answer ∙ c.in-None.is in
-    let o = c.leap-lines.ensures in
+    let e : State = record { core = record { context = c.leap_lines.new.context; waiting = rest }; contents = g.B.Bus.contents c.leap_lines.new.bus } in
+    let h = sym c.leap_fault.ensures.answer ∙ c.in-None.is in
+    let o = c.leap_lines.ensures in
     let w : e ≡ live (leapt m card pace (length t) s ls).state = λ i. record { core = record { context = o.context i; waiting = rest }; contents = o.contents i } in
     record {
       answer = search rules;
       core = search rules;
       contents = search rules;
       trace = search rules;
-      refusal = leap_heard_lem (run_answer m (leapt m card pace (length t) s ls)) ls s.core.waiting.step (Ok c.leap-lines.result) (search rules);
-      step = leaped_as m ls s e (length t) c.leap-lines.result t c.leap-lines.new.trace h o.answer o.trace w;
+      refusal = leap_heard_lem (run_answer m (leapt m card pace (length t) s ls)) ls s.core.waiting.step (Ok c.leap_lines.result) (search rules);
+      step = leaped_as m ls s e (length t) c.leap_lines.result t c.leap_lines.new.trace h o.answer o.trace w;
     }

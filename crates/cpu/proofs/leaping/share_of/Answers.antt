@@ -5,21 +5,21 @@ use Rattle.cpu.specs.Measures.{measured, Well}
 use Rattle.machine.proofs.Cuts.{cut_good}
 use Rattle.cpu.proofs.Scans.{past, past-none, scan_wait, scan_work, scan_last, scan_none, noted_more, ahead-work, ahead-all, ahead_some, measured-last, measured_well}
 use Rattle.cpu.proofs.leaping.share_of.Goals as goal
-use Rattle.cpu.proofs.leaping.share_of.Goals.{then-is-stalled+then-ahead-i, then-is-stalled+else-ahead-i, else-is-stalled+else-more-eq0}
+use Rattle.cpu.proofs.leaping.share_of.Goals.{then-is_stalled+then-ahead-i, then-is_stalled+else-ahead-i, else-is_stalled+else-more-eq0}
 
 pub loop-i-init : goal.loop-i-init
 loop-i-init c =
     let e : pred c.args.count ≡ c.args.count - 1 = omega arith in
     (past-none _ ∙ ap (λ (k : ℕ). past [] (cut_after k c.args.lines.now)) e, refl, refl, omega arith)
 
-pub overflow-cast-result-then-more-eq0 : goal.overflow-cast-result-then-more-eq0
-overflow-cast-result-then-more-eq0 c = omega (arith, c.loop-i.invariant.3, c.loop-i-test.true, c.requires.1)
+pub overflow_cast-result-then-more-eq0 : goal.overflow_cast-result-then-more-eq0
+overflow_cast-result-then-more-eq0 c = omega (arith, c.loop-i.invariant.3, c.loop-i-test.true, c.requires.1)
 
 pub returns-then-more-eq0 : goal.returns-then-more-eq0
 returns-then-more-eq0 c =
     let ls = c.args.lines.now in
     let i = c.loop-i.i in
-    let z = scan_last (cut c.args.count ls) ls i c.loop-i.more c.loop-i.invariant.0 c.loop-i-test.true (sym c.if-is-stalled.ensures) c.if-more-eq0.true in
+    let z = scan_last (cut c.args.count ls) ls i c.loop-i.more c.loop-i.invariant.0 c.loop-i-test.true (sym c.if-is_stalled.ensures) c.if-more-eq0.true in
     let r = measured-last c.args.ticks ls i c.loop-i.seen c.loop-i.ahead _ c.loop-i-test.true z c.loop-i.invariant.1 c.loop-i.invariant.2 in
     record { answer = r; well = subst (Well ls c.args.count) (sym r) (measured_well c.args.ticks c.args.count ls _ (cut_good (pred c.args.count) ls) c.requires.0) }
 
@@ -29,27 +29,27 @@ loop-i-preserved c =
     let i = c.loop-i.i in
     let h : i < length ls = c.loop-i-test.true in
     let z = cut c.args.count ls in
-    let on : (k : ℕ) → z ≡ past (take (i + 1) ls) (cut_after k (drop (i + 1) ls)) → c.if-is-stalled.more ≡ k
-    → z ≡ past (take (i + 1) ls) (cut_after c.if-is-stalled.more (drop (i + 1) ls)) =
+    let on : (k : ℕ) → z ≡ past (take (i + 1) ls) (cut_after k (drop (i + 1) ls)) → c.if-is_stalled.more ≡ k
+    → z ≡ past (take (i + 1) ls) (cut_after c.if-is_stalled.more (drop (i + 1) ls)) =
     λ k e q. e ∙ ap (λ (j : ℕ). past (take (i + 1) ls) (cut_after j (drop (i + 1) ls))) (sym q) in
     let t = c.note.ensures ∙ ap (noted _) c.loop-i.invariant.1 ∙ sym (noted_more ls i c.args.ticks h) in
-    elim c.if-is-stalled.branch [
-      | then-is-stalled+then-ahead-i w ↦
-          let e = sym c.is-stalled.ensures ∙ w.if-is-stalled.true in (
+    elim c.if-is_stalled.branch [
+      | then-is_stalled+then-ahead-i w ↦
+          let e = sym c.is_stalled.ensures ∙ w.if-is_stalled.true in (
             on _ (scan_wait z ls i c.loop-i.more c.loop-i.invariant.0 h e) w.more-is,
             t,
             w.ahead-is ∙ ahead-all ls i c.loop-i.ahead h c.loop-i.invariant.2 e w.if-ahead-i.true,
             omega (arith, w.ahead-is),
           )
-      | then-is-stalled+else-ahead-i w ↦
-          let e = sym c.is-stalled.ensures ∙ w.if-is-stalled.true in (
+      | then-is_stalled+else-ahead-i w ↦
+          let e = sym c.is_stalled.ensures ∙ w.if-is_stalled.true in (
             on _ (scan_wait z ls i c.loop-i.more c.loop-i.invariant.0 h e) w.more-is,
             t,
             w.ahead-is ∙ ahead_some ls i c.loop-i.ahead h c.loop-i.invariant.2 w.if-ahead-i.false,
             omega (arith, w.ahead-is, c.loop-i.invariant.3),
           )
-      | else-is-stalled+else-more-eq0 w ↦
-          let e = sym c.is-stalled.ensures ∙ w.if-is-stalled.false in
+      | else-is_stalled+else-more-eq0 w ↦
+          let e = sym c.is_stalled.ensures ∙ w.if-is_stalled.false in
           let p : 0 < c.loop-i.more = omega (arith, w.if-more-eq0.false) in (
             on _ (scan_work z ls i c.loop-i.more c.loop-i.invariant.0 h e p) w.more-is,
             t,

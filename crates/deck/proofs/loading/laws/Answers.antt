@@ -5,4 +5,4 @@ use Rattle.deck.proofs.Sequence.{in_order, first_fault}
 use Rattle.deck.proofs.loading.laws.Goals as goal
 
 pub returns : goal.returns
-returns c = record { in_order = in_order; first_fault = first_fault; lowest_told = lowest_told; last_word = last_wins word_of; last-register = last_wins register_of; lines_follow = lines_follow }
+returns c = record { in_order = in_order; first_fault = first_fault; lowest_told = lowest_told; last_word = last_wins word_of; last_register = last_wins register_of; lines_follow = lines_follow }

@@ -11,5 +11,5 @@ returns g c =
     let s : State = state c.args.live.now (g.B.Bus.contents c.args.bus.now) in
     let e : State = state c.clock.new.self (g.B.Bus.contents c.clock.new.bus) in
     let o = c.clock.ensures in
-    let w = stepped m x s e c.clock.result c.is-ok.result o.answer (λ i. record { core = o.core i; contents = o.contents i }) c.is-ok.ensures.value in
+    let w = stepped m x s e c.clock.result c.is_ok.result o.answer (λ i. record { core = o.core i; contents = o.contents i }) c.is_ok.ensures.value in
     record { taken = w.0; state = w.1 }

@@ -18,5 +18,5 @@ returns g c =
       below = refl;
       hands_out =
           new_hands_out g.B.Bus.meaning feed (g.B.Bus.contents c.args.below) r.age r.taken r.count r.bytes made.age made.taken
-          count bytes (λ i. omega (arith, c.type-inv.feed i));
+          count bytes (λ i. omega (arith, c.type_inv.feed i));
     }

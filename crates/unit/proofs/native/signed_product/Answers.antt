@@ -4,8 +4,8 @@ use borrow.Author.Differences.{ints}
 use Rattle.unit.proofs.Ints.{product-fits}
 use Rattle.unit.proofs.native.signed_product.Goals as goal
 
-pub overflow-mul-result : goal.overflow-mul-result
-overflow-mul-result c = product-fits (to_z w64 (of_z w64 c.factor.result)) (to_z w64 (of_z w64 c.factor-2.result)) (omega (arith, ints)) (omega (arith, ints))
+pub overflow_mul-result : goal.overflow_mul-result
+overflow_mul-result c = product-fits (to_z w64 (of_z w64 c.factor.result)) (to_z w64 (of_z w64 c.factor-2.result)) (omega (arith, ints)) (omega (arith, ints))
 
 pub returns : goal.returns
 returns c =

@@ -6,7 +6,7 @@ use Rattle.deck.specs.Loaded.{word_of, register_of, placed}
 use Rattle.deck.proofs.Counting.{goes, room_within}
 use Rattle.deck.proofs.Storing.{has_room, has_deed, words_more, registers-more, lines-written}
 use Rattle.deck.proofs.rows.Deck.write.Goals as goal
-use Rattle.deck.proofs.rows.Deck.write.Goals.{in-Ok, in-default}
+use Rattle.deck.proofs.rows.Deck.write.Goals.{in-Ok, in_default}
 
 pub apply-used-requires : goal.apply-used-requires
 apply-used-requires c =
@@ -48,6 +48,6 @@ loop-row-preserved c =
                 ∙ (e.apply-used.ensures.lines
                 ∙ (ap (λ (xs : List ℕ). paste xs u (lines_of d) (length (lines_of d))) c.loop-row.invariant.3 ∙ sym (lines-written bs w m k u v d h says room c.args.lines.now))),
           )
-      | in-default e ↦
-          absurd (has_deed bs w m (row_count bs) k u _ c.requires.1 below h (e.in-default.ensures.answer ∙ ap (λ (n : ℕ). row_says bs n k) c.loop-row.auto.words))
+      | in_default e ↦
+          absurd (has_deed bs w m (row_count bs) k u _ c.requires.1 below h (e.in_default.ensures.answer ∙ ap (λ (n : ℕ). row_says bs n k) c.loop-row.auto.words))
     ]
