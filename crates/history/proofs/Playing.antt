@@ -1,5 +1,5 @@
 -- One request more.
-use Rattle.std.proofs.Common.{◌≡◌, ℕ, zero, suc, ◌+◌, ◌-◌, ◌<◌, ◌≤◌, List, [], ◌∷◌, ◌++◌, length, take, drop, set, Ok, Err, Result, sym, refl, ap, ◌∙◌, subst, ap₂, add-zero, add_assoc, zero-add, arith, length-drop, take_add}
+use Rattle.std.proofs.Common.{◌≡◌, ℕ, zero, suc, ◌+◌, ◌-◌, ◌<◌, ◌≤◌, List, [], ◌∷◌, ◌++◌, length, take, drop, set, Ok, Err, Result, sym, refl, ap, ◌∙◌, subst, ap₂, add-zero, add_assoc, zero-add, arith, length-drop, take-add}
 use native.Mathlib.Nat.{sub-zero}
 use Rattle.std.proofs.lemmas.List.{take-append-le, drop-append-le, take_more_set, take-take, length-take-le, drop-set-lt, drop-drop}
 use Rattle.bus.specs.Meaning.{Meaning}
@@ -79,7 +79,7 @@ module _ (xs : List Answer) (i : ℕ) (x : Answer) (h : i < length xs) where
   calls_on room ls qs q k t u p lq w e le size =
       let a : length (take i qs) ≡ length (take i xs) = length-take-le i qs lq ∙ sym (length-take-le i xs (omega arith)) in
       let n : length (take k t) ≡ k = length-take-le k t le in
-      let cut : take (k + wrote x) u ≡ take k t ++ take (wrote x) (drop k u) = take_add k (wrote x) u ∙ ap (λ (r : List Record). r ++ take (wrote x) (drop k u)) e in
+      let cut : take (k + wrote x) u ≡ take k t ++ take (wrote x) (drop k u) = take-add k (wrote x) u ∙ ap (λ (r : List Record). r ++ take (wrote x) (drop k u)) e in
       (λ j. calls_of room ls (p j) (take_more_set xs i x h j) (cut j))
       ∙ calls_more room ls (take i qs) (take i xs) (take k t) (take (wrote x) (drop k u)) q x a (w ∙ sym n)
       ∙ ap (λ (c : Call). calls_of room ls (take i qs) (take i xs) (take k t) ++ (c ∷ []))

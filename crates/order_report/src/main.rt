@@ -5,6 +5,7 @@ use anyhow::anyhow;
 use card::STANDARD_WORDS;
 use order::{ByteStore, Field, Finding, line, receive};
 use std::io;
+use std::process::ExitCode;
 
 fn mark(on: bool) -> char {
     if on { '1' } else { '0' }
@@ -79,11 +80,10 @@ fn tell(rt: &HostRuntime, text: &str, field: Field) -> anyhow::Result<()> {
 }
 
 // What is wrong with a line that has no quantity field at its end.
-fn no_field(rt: &HostRuntime, number: u64) -> anyhow::Result<()> {
-    let message = format!(in rt.alloc();
+fn no_field(number: u64) -> anyhow::Result<()> {
+    Err(anyhow!(
         "line {number} does not end with a quantity field as 00 00 01 00, four bytes in hexadecimal"
-    )?;
-    Err(message.as_str().into())
+    ))
 }
 
 fn run(rt: &HostRuntime) -> anyhow::Result<()> {
@@ -92,7 +92,7 @@ fn run(rt: &HostRuntime) -> anyhow::Result<()> {
         let text = text?;
         number = number.saturating_add(1);
         let Some(field) = line::field(text.as_bytes()) else {
-            return no_field(rt, number);
+            return no_field(number);
         };
         if number > 1 {
             println!(rt)?;
@@ -105,12 +105,12 @@ fn run(rt: &HostRuntime) -> anyhow::Result<()> {
     Ok(())
 }
 
-fn main(rt: HostRuntime) -> anyhow::Result<()> {
+fn main(rt: HostRuntime) -> ExitCode {
     match run(&rt) {
-        Ok(()) => Ok(()),
+        Ok(()) => ExitCode::SUCCESS,
         Err(error) => {
-            eprintln!(rt; "order_report: {error}")?;
-            Err(error)
+            let _told = eprintln!(rt; "order_report: {error}");
+            ExitCode::FAILURE
         }
     }
 }

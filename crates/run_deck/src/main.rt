@@ -7,6 +7,7 @@ use deck_run::Failure;
 use machine::Record;
 use refusal::Refusal;
 use std::io;
+use std::process::ExitCode;
 use std::io::Read;
 
 // One byte more than the longest deck has, so that a longer one is refused and not cut.
@@ -64,12 +65,12 @@ fn run(rt: &HostRuntime) -> anyhow::Result<()> {
     Ok(())
 }
 
-fn main(rt: HostRuntime) -> anyhow::Result<()> {
+fn main(rt: HostRuntime) -> ExitCode {
     match run(&rt) {
-        Ok(()) => Ok(()),
+        Ok(()) => ExitCode::SUCCESS,
         Err(error) => {
-            eprintln!(rt; "run_deck: {error}")?;
-            Err(error)
+            let _told = eprintln!(rt; "run_deck: {error}");
+            ExitCode::FAILURE
         }
     }
 }

@@ -60,8 +60,7 @@ fn run(rt: &HostRuntime) -> anyhow::Result<()> {
         let text = text?;
         number = number.saturating_add(1);
         if let Err(error) = read_case(rt, text.as_str()) {
-            let message = format!(in rt.alloc(); "line {number}: {error}")?;
-            return Err(message.as_str().into());
+            return Err(anyhow!("line {number}: {error}"));
         }
     }
     Ok(())

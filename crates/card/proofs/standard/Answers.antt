@@ -4,5 +4,5 @@ use Rattle.card.proofs.standard.Goals as goal
 
 pub returns : goal.returns
 returns c =
-    let zeros : vec_items c.in_ok-words.words ≡ replicate 4096 0 = c.in_ok-words.ensures.items-if-clones-equal (λ y e. e) in
+    let zeros : vec_items c.in_ok-words.words ≡ replicate 4096 0 = c.in_ok-words.ensures.items_if_clones_equal (λ y e. e) in
     c.stack.ensures.contents ∙ ap (λ words. new_card words []) zeros

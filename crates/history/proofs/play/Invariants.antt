@@ -2,7 +2,7 @@ use Rattle.std.proofs.Common.{◌≡◌, ◌-◌, ◌≤◌, length, take, drop}
 use Rattle.machine.specs.Histories.{After}
 use Rattle.risc5.specs.Set.{card, pace}
 use Rattle.cpu.specs.Cores.{state}
-use Rattle.history.specs.Asked.{wrote_all, calls_of, asked, goal}
+use Rattle.history.specs.Asked.{wrote_all, calls_of, asked, given}
 use Rattle.history.proofs.play.Given as goal
 
 abbrev pub invariant-loop-met : goal.invariant-loop-met
@@ -13,7 +13,7 @@ invariant-loop-met g l =
     × (wrote_all (take l.met l.answers) ≡ l.records)
     × (drop l.met l.answers ≡ drop l.met l.initial.answers)
     × (drop l.records l.trace ≡ drop l.records l.initial.trace)
-    × (goal (take l.met l.answers) ≡ asked (take l.met l.requests))
+    × (given (take l.met l.answers) ≡ asked (take l.met l.requests))
     × After g.B.Bus.meaning card pace (state l.initial.live (g.B.Bus.contents l.initial.bus))
     (calls_of (length l.initial.trace) l.lines (take l.met l.requests) (take l.met l.answers) (take l.records l.trace))
     (state l.live (g.B.Bus.contents l.bus))
