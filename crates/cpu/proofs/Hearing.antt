@@ -3,7 +3,7 @@ use Rattle.std.proofs.Common.{◌≡◌, ℕ, Bool, true, false, cond, eqb, ltb,
 use Rattle.refusal.specs.declared.Refusal.{Refusal}
 use Rattle.refusal.specs.declared.Refusal.TheVariants.{LinesTooMany, LineValue, InsideInstruction}
 use Rattle.refusal.specs.Heard.{heard, refused, nothing, first_of}
-use Rattle.machine.specs.Histories.{first_over, lines_refused, or_inside, leap_refused}
+use Rattle.machine.specs.Histories.{first_over, lines_refused, leap_refused}
 use Rattle.cpu.specs.Calls.{answer_by, lines_heard, leap_heard}
 
 abbrev or_else : Bool → Option Refusal → Option Refusal

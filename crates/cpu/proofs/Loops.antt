@@ -5,7 +5,7 @@ use Rattle.bus.specs.Meaning.{Meaning}
 use Rattle.isa.specs.Kinds.{clocks_of}
 use Rattle.machine.specs.declared.Record.{Record}
 use Rattle.machine.specs.Lines.{noted_all, one, stalls}
-use Rattle.machine.specs.State.{Boundary, with_ticks}
+use Rattle.machine.specs.State.{Boundary}
 use Rattle.machine.specs.Clock.{acks}
 use Rattle.machine.specs.Shares.{Cut, short, whole, ahead, remains}
 use Rattle.machine.specs.Instructions.{ready_at, before, instruction, recorded, Run, stop, share, leaps}

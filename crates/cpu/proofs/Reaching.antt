@@ -1,11 +1,11 @@
 -- Instructions without an access only pass clocks.
-use Rattle.std.proofs.Common.{◌≡◌, ℕ, ◌+◌, ◌-◌, ◌≤◌, ◌⊎◌, List, sym, refl, ap, ◌∙◌, inl, inr, arith}
+use Rattle.std.proofs.Common.{◌≡◌, ℕ, ◌+◌, ◌-◌, ◌≤◌, ◌⊎◌, List, sym, ap, ◌∙◌, arith}
 use Rattle.bus.specs.Meaning.{Meaning}
 use Rattle.isa.specs.declared.Kind.{Kind}
 use Rattle.isa.specs.Kinds.{kind_of}
 use Rattle.machine.specs.declared.Context.{Context}
-use Rattle.machine.specs.State.{Boundary, with_registers}
-use Rattle.machine.specs.Isa.{Class, stepping, plain}
+use Rattle.machine.specs.State.{with_registers}
+use Rattle.machine.specs.Isa.{stepping, plain}
 use Rattle.machine.specs.Clock.{Reached, access_by}
 use Rattle.machine.specs.Instructions.{ready_at}
 use Rattle.machine.proofs.Waits.{none_made}

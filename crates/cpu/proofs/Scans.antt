@@ -1,12 +1,11 @@
 -- Scanning for a share, line by line.
-use Rattle.std.proofs.Common.{◌≡◌, ℕ, zero, suc, pred, ◌+◌, ◌-◌, ◌<◌, ◌≤◌, Bool, true, false, List, [], ◌∷◌, ◌++◌, length, get_or, take, drop, Some, None, Option, sym, refl, ap, ◌∙◌, subst, ap₂, append_assoc, append-nil, not-suc-le-zero, arith, length-append}
+use Rattle.std.proofs.Common.{◌≡◌, ℕ, zero, suc, pred, ◌+◌, ◌-◌, ◌<◌, ◌≤◌, Bool, true, false, List, [], ◌∷◌, ◌++◌, length, get_or, take, drop, Some, sym, refl, ap, ◌∙◌, append_assoc, append-nil, not-suc-le-zero, arith, length-append}
 use Rattle.std.proofs.lemmas.List.{take_more, drop_more, drop_all, length-take-le}
 use Rattle.std.proofs.lemmas.List.Sums.{fold_more}
 use Rattle.machine.specs.declared.Ticks.{Ticks}
 use Rattle.machine.specs.Lines.{stalled, noted, noted_all}
 use Rattle.machine.specs.Shares.{Cut, short, whole, behind, last_by, fewer, cut_after, ahead, ahead_by}
 use Rattle.cpu.specs.Measures.{measured, Well}
-use Rattle.cpu.specs.declared.leaping.Share.{Share}
 use Rattle.machine.proofs.Cuts.{Good}
 use Rattle.machine.proofs.Waits.{ahead_le}
 use Rattle.machine.proofs.Runs.{share-stalls}

@@ -1,5 +1,5 @@
 -- Each call is a step of a history.
-use Rattle.std.proofs.Common.{◌≡◌, ℕ, List, length, take, drop, Some, None, sym, ap, ◌∙◌, subst}
+use Rattle.std.proofs.Common.{◌≡◌, ℕ, List, length, take, drop, None, sym, ap, ◌∙◌, subst}
 use lib.Seq.{take-append_seam}
 use Rattle.bus.specs.Meaning.{Meaning}
 use Rattle.machine.specs.declared.Record.{Record}
@@ -7,7 +7,7 @@ use Rattle.machine.specs.Lines.{stalls}
 use Rattle.machine.specs.State.{State, live}
 use Rattle.machine.specs.Clock.{run, finished}
 use Rattle.machine.specs.Instructions.{Run}
-use Rattle.machine.specs.Histories.{lines_refused, leap_refused, leapt, clocking, leaping, Call, Did, clocked, leaped}
+use Rattle.machine.specs.Histories.{lines_refused, leap_refused, leapt, clocking, leaping, Did, clocked, leaped}
 use Rattle.risc5.specs.Set.{card, pace}
 use Rattle.cpu.specs.Calls.{run_answer, overlaid}
 

@@ -3,7 +3,6 @@ use Rattle.std.specs.Prelude.{ℕ, false, cond, List, replicate, Ok, Err, Option
 use Rattle.refusal.specs.Heard.{Told, refused, nothing}
 use Rattle.bus.specs.Meaning.{Meaning}
 use Rattle.isa.specs.declared.Flags.{Flags}
-use Rattle.machine.specs.declared.Registers.{Registers}
 use Rattle.machine.specs.declared.Core.{Core}
 use Rattle.machine.specs.declared.Context.{Context}
 use Rattle.machine.specs.State.{State, Boundary, rest}

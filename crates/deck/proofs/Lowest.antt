@@ -1,10 +1,10 @@
 -- Of a row's faults the lowest is told.
-use Rattle.std.proofs.Common.{◌≡◌, ℕ, Bool, true, false, cond, ◌&&◌, ◌||◌, eqb, ltb, List, Some, None, Ok, Err, Option, Result, refl, ◌∙◌}
+use Rattle.std.proofs.Common.{◌≡◌, ℕ, Bool, true, false, cond, ◌&&◌, ◌||◌, eqb, ltb, Some, None, Ok, Err, Option, Result, refl, ◌∙◌}
 use Rattle.refusal.specs.Heard.{Told, refused, nothing}
 use Rattle.deck.specs.declared.rows.Deed.{Deed}
 use Rattle.deck.specs.declared.rows.Deed.TheVariants.{Sets, Presets, Adds}
 use Rattle.deck.specs.Field.{parse}
-use Rattle.deck.specs.Rows.{refused_at, told_of, and_then, column, columns, field_of, within, numbers, deed_of, row_says}
+use Rattle.deck.specs.Rows.{refused_at, told_of, and_then, column, columns, field_of, within, numbers, deed_of}
 use Rattle.deck.specs.Law.{fault_of, LowestTold}
 
 told-deed : (deed : ℕ → ℕ → Deed) (r : Result (ℕ × ℕ) Told) → told_of (deed_of deed r) ≡ told_of r

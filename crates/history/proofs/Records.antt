@@ -1,5 +1,5 @@
 -- A leap writes no more records than there is room for, and leaves what stands behind them.
-use Rattle.std.proofs.Common.{◌≡◌, ℕ, zero, suc, ◌≤◌, List, [], ◌∷◌, ◌++◌, length, take, drop, Some, None, Option, Result, sym, refl, ap, ◌∙◌, subst, arith}
+use Rattle.std.proofs.Common.{◌≡◌, ℕ, zero, suc, ◌≤◌, List, [], length, drop, Some, None, Option, refl, arith}
 use Rattle.std.proofs.lemmas.List.{drop_at}
 use Rattle.bus.specs.Meaning.{Meaning}
 use Rattle.refusal.specs.declared.Refusal.{Refusal}

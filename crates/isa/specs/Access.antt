@@ -1,6 +1,5 @@
 -- Loads and stores: where they go, what a load takes from a word and what a store sends.
 use Rattle.std.specs.Prelude.{ℕ, ◌%◌, ◌^◌, cond, pos, ◌+ℤ◌}
-use Rattle.bus.specs.declared.Marks.{Marks}
 use Rattle.bus.specs.Lanes.{in_lane, placed, all_marked, only_marked}
 use Rattle.isa.specs.declared.Sent.{Sent}
 use Rattle.isa.specs.Numbers.{field, signed_field, modulo}

@@ -1,5 +1,5 @@
 -- What a cut gives: a share with n + 1 unstalled lines, the last of them its end.
-use Rattle.std.proofs.Common.{◌≡◌, ℕ, zero, suc, pred, ◌+◌, ◌<◌, ◌≤◌, Bool, true, false, not, List, [], ◌∷◌, ◌++◌, length, get_or, take, drop, sym, refl, ap, ◌∙◌, subst, zero-le, arith}
+use Rattle.std.proofs.Common.{◌≡◌, ℕ, zero, suc, pred, ◌+◌, ◌≤◌, Bool, true, false, not, List, [], ◌∷◌, ◌++◌, length, take, drop, sym, refl, ap, ◌∙◌, subst, zero-le, arith}
 use native.Mathlib.Nat.{suc-pred-eq_of_pos}
 use lib.Seq.{take-append_seam, get_or-append_seam, take-append-le}
 use Rattle.machine.specs.Lines.{stalled, one, unstalled}

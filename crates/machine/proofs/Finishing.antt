@@ -3,14 +3,14 @@ use Rattle.std.proofs.Common.{◌≡◌, ℕ, ◌-◌, ◌%◌, ◌^◌, Bool, t
 use Rattle.bus.specs.Meaning.{Meaning}
 use Rattle.machine.specs.declared.Registers.{Registers}
 use Rattle.machine.specs.declared.Context.{Context}
-use Rattle.machine.specs.Lines.{stalled, noted, cleared}
-use Rattle.machine.specs.State.{State, Boundary, with_registers}
+use Rattle.machine.specs.Lines.{noted, cleared}
+use Rattle.machine.specs.State.{State}
 use Rattle.machine.specs.Isa.{Class, Isa, Pace}
-use Rattle.machine.specs.Clock.{finish, finish_at, acks, access_by, waits, held, ends, clock}
+use Rattle.machine.specs.Clock.{finish, finish_at, acks, access_by, waits, ends, clock}
 use Rattle.machine.specs.Shares.{ahead}
 use Rattle.machine.specs.Instructions.{ready_at, ready, before, instruction}
 use Rattle.machine.specs.Laws.{ARiseOnAcknowledgingIsLost, AStalledLineIsNoStep, AStoreLandsBeforeTheFetch}
-use Rattle.machine.proofs.Waits.{Way, stands, waiting, ending, way, moved, clock-held}
+use Rattle.machine.proofs.Waits.{Way, stands, waiting, ending, way, clock-held}
 
 finish-lost : (M : Meaning) (I : Isa) (f : Context) (r : Registers) (l : ℕ) (h : List ℕ) → acks f ≡ true → (finish M I f r l h).ticks.pending ≡ false
 unfolding finish_at

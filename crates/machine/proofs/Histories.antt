@@ -1,17 +1,17 @@
 -- What holds after a history: how it ends and what it tells.
-use Rattle.std.proofs.Common.{◌≡◌, ℕ, zero, suc, ◌+◌, Bool, true, false, cond, eqb, List, [], ◌∷◌, ◌++◌, length, take, Some, None, Option, sym, refl, ap, ◌∙◌, subst, ap₂, append-nil, arith}
+use Rattle.std.proofs.Common.{◌≡◌, ℕ, ◌+◌, Bool, true, false, cond, eqb, List, [], ◌∷◌, ◌++◌, length, take, Some, None, Option, sym, refl, ap, ◌∙◌, subst, ap₂, append-nil, arith}
 use Rattle.std.proofs.lemmas.Bool.Decides as ways
 use Rattle.refusal.specs.declared.Refusal.{Refusal}
 use Rattle.refusal.specs.declared.Refusal.TheVariants.{InsideInstruction}
 use Rattle.bus.specs.Meaning.{Meaning}
 use Rattle.machine.specs.declared.Waiting.{Waiting}
 use Rattle.machine.specs.State.{State, Boundary, rest, live, boundary_of}
-use Rattle.machine.specs.Lines.{stalled, stalls}
+use Rattle.machine.specs.Lines.{stalls}
 use Rattle.machine.specs.Isa.{Isa, Pace, Lawful}
-use Rattle.machine.specs.Clock.{held, goes, waits, clock, run, ends, counted, finished}
-use Rattle.machine.specs.Instructions.{Run, leaps, completes}
+use Rattle.machine.specs.Clock.{clock, run, ends, counted, finished}
+use Rattle.machine.specs.Instructions.{Run, completes}
 use Rattle.machine.specs.Histories.{lines_refused, or_inside, leap_refused, Call, leapt, Did, clocked, leaped, idled, After, none, then, takes, tells, tells_stalls, lines, told, stalls_told}
-use Rattle.machine.specs.Laws.{EndsBetween, EndsByTheClockRules, EndsByTheInstructionMachine, TellsEveryInstruction, LinesAreClocksAndStalls}
+use Rattle.machine.specs.Laws.{EndsByTheClockRules, EndsByTheInstructionMachine, TellsEveryInstruction, LinesAreClocksAndStalls}
 use Rattle.machine.proofs.Waits.{Way, stands, waiting, ending, way}
 use Rattle.machine.proofs.Runs.{Ran, Runs, runs, run-append, counted-append, stalls-append, ran-run, ran-finished, ran-stalls, ran-length, taken, leaps-run}
 

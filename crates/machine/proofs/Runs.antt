@@ -1,14 +1,11 @@
 -- What holds over a run of the instruction machine.
-use Rattle.std.proofs.Common.{◌≡◌, ℕ, zero, suc, pred, ◌+◌, ◌-◌, ◌<◌, ◌≤◌, Bool, true, false, not, ◌&&◌, List, [], ◌∷◌, ◌++◌, length, take, sym, refl, ap, ◌∙◌, subst, ap₂, append_assoc, not-suc-le-zero, add-zero, add_assoc, suc-add, zero-add, one-add, arith, length-append, le-ltb, lt-ltb}
-use native.Mathlib.Nat.{suc-pred-eq_of_pos}
+use Rattle.std.proofs.Common.{◌≡◌, ℕ, zero, suc, pred, ◌+◌, ◌<◌, ◌≤◌, Bool, true, false, not, ◌&&◌, List, [], ◌∷◌, ◌++◌, length, take, sym, refl, ap, ◌∙◌, ap₂, append_assoc, not-suc-le-zero, add_assoc, zero-add, one-add, arith, length-append, le-ltb, lt-ltb}
 use Rattle.bus.specs.Meaning.{Meaning}
 use Rattle.machine.specs.declared.Registers.{Registers}
-use Rattle.machine.specs.declared.Context.{Context}
-use Rattle.machine.specs.declared.Waiting.{Waiting}
-use Rattle.machine.specs.State.{State, Boundary, rest, live}
+use Rattle.machine.specs.State.{State, Boundary, live}
 use Rattle.machine.specs.Lines.{stalled, one, stalls}
 use Rattle.machine.specs.Isa.{Isa, Pace, Lawful}
-use Rattle.machine.specs.Clock.{opened, held, goes, carried, lasts, owed, waits, clock, run, ends, counted, finished}
+use Rattle.machine.specs.Clock.{opened, held, lasts, owed, waits, clock, run, ends, counted, finished}
 use Rattle.machine.specs.Shares.{Cut, short, whole, cut_after}
 use Rattle.machine.specs.declared.Record.{Record}
 use Rattle.machine.specs.Instructions.{Run, recorded, instruction, share, stop, then, onward, leaps}

@@ -1,19 +1,19 @@
 -- Part c: over a still bus, with the ticking down, an instruction does not depend on its share.
-use Rattle.std.proofs.Common.{◌≡◌, ℕ, zero, suc, ◌+◌, ◌-◌, Bool, true, false, cond, not, ◌&&◌, ◌||◌, List, [], ◌∷◌, ◌++◌, length, sym, refl, ap, ◌∙◌, subst, ap₂}
+use Rattle.std.proofs.Common.{◌≡◌, ℕ, zero, suc, ◌-◌, Bool, false, cond, not, ◌&&◌, ◌||◌, List, [], ◌∷◌, ◌++◌, length, sym, refl, ap, ◌∙◌, ap₂}
 use mathlib.Core.Bool.{or-false}
 use Rattle.bus.specs.Meaning.{Meaning, Still}
 use Rattle.machine.specs.declared.Registers.{Registers}
 use Rattle.machine.specs.declared.Ticks.{Ticks}
 use Rattle.machine.specs.declared.Context.{Context}
 use Rattle.machine.specs.State.{State, Boundary, live, with_registers, with_ticks}
-use Rattle.machine.specs.Lines.{ticking, noted, cleared, noted_all}
+use Rattle.machine.specs.Lines.{ticking, noted, noted_all}
 use Rattle.machine.specs.Isa.{Isa, Pace, Lawful}
 use Rattle.machine.specs.Clock.{Reached, access, acks, finish, finish_at}
 use Rattle.machine.specs.Shares.{ahead}
-use Rattle.machine.specs.Instructions.{ready_at, ready, before, instruction, recorded, leaps, completes}
+use Rattle.machine.specs.Instructions.{ready_at, ready, instruction}
 use Rattle.machine.specs.declared.Record.{Record}
 use Rattle.machine.specs.Histories.{Call, After, lines, told}
-use Rattle.machine.specs.Laws.{EndsBetween, Quiet, EqualEndsUnderOtherStalls, Law}
+use Rattle.machine.specs.Laws.{EndsBetween, Quiet, Law}
 use Rattle.machine.proofs.Runs.{Ran, none, next}
 use Rattle.machine.proofs.Histories.{used_all, by_the_clock_rules, by_the_instruction_machine, every_instruction, clocks_and_stalls}
 

@@ -1,19 +1,18 @@
 -- One instruction: the clock rules over a share are the instruction machine's instruction over it.
-use Rattle.std.proofs.Common.{◌≡◌, ℕ, zero, suc, pred, ◌+◌, ◌-◌, ◌≤◌, Bool, true, false, ◌⊎◌, List, [], ◌∷◌, ◌++◌, length, sym, refl, ap, ◌∙◌, subst, ap₂, inl, inr, not-suc-le-zero, add-zero, add-suc, zero-add, add-one, one-add, arith, le-ltb, lt-ltb}
+use Rattle.std.proofs.Common.{◌≡◌, ℕ, zero, suc, pred, ◌+◌, ◌-◌, ◌≤◌, Bool, true, false, ◌⊎◌, List, [], ◌∷◌, ◌++◌, length, sym, refl, ap, ◌∙◌, ap₂, inl, inr, add-zero, zero-add, add-one, one-add, arith, le-ltb, lt-ltb}
 use native.Mathlib.Nat.{suc-pred-eq_of_pos, suc-sub-suc, sub-zero}
 use Rattle.bus.specs.Meaning.{Meaning}
 use Rattle.machine.specs.declared.Registers.{Registers}
 use Rattle.machine.specs.declared.Context.{Context}
-use Rattle.unit.specs.declared.Pair.{Pair}
 use Rattle.machine.specs.declared.Waiting.{Waiting}
 use Rattle.machine.specs.State.{State, Boundary, rest, live, with_registers, with_ticks}
 use Rattle.machine.specs.Lines.{stalled, noted, noted_all}
 use Rattle.machine.specs.Isa.{Class, Isa, Pace, turns, Lawful, loading, storing, stepping, plain}
-use Rattle.machine.specs.Clock.{Reached, finish, access_by, access, opened, turned_by, written_by, held, goes, carried, lasts, owed, waits, worked, clock_by, clock, run}
-use Rattle.machine.specs.Shares.{whole, ahead, ahead_by}
-use Rattle.machine.specs.Instructions.{ready_at, ready, before, instruction, share}
+use Rattle.machine.specs.Clock.{Reached, finish, access_by, access, opened, turned_by, written_by, held, goes, carried, lasts, owed, waits, clock_by, clock, run}
+use Rattle.machine.specs.Shares.{ahead, ahead_by}
+use Rattle.machine.specs.Instructions.{ready_at, ready, before, instruction}
 use Rattle.machine.specs.Laws.{OthersPass}
-use Rattle.machine.proofs.Cuts.{Whole, final, wait, work, cut-whole}
+use Rattle.machine.proofs.Cuts.{Whole, final, wait, work}
 
 -- the core inside an instruction, with any wait state
 abbrev pub mid : Context → Waiting → List ℕ → State

@@ -2,7 +2,6 @@
 use Rattle.std.specs.Prelude.{ℕ, zero, suc, ◌+◌, ◌%◌, ◌^◌, Bool, true, false, cond, not, ◌&&◌, ◌||◌, List, [], ◌∷◌, fold, nat_lt}
 use Rattle.bus.specs.Meaning.{Meaning}
 use Rattle.isa.specs.declared.Flags.{Flags}
-use Rattle.isa.specs.declared.Sent.{Sent}
 use Rattle.unit.specs.declared.Pair.{Pair}
 use Rattle.machine.specs.declared.Registers.{Registers}
 use Rattle.machine.specs.declared.Interrupts.{Interrupts}

@@ -1,7 +1,6 @@
 -- The instruction machine: it runs whole instructions, each over its share of the lines.
 use Rattle.std.specs.Prelude.{ℕ, zero, suc, ◌+◌, ◌-◌, List, [], ◌∷◌, length}
 use Rattle.bus.specs.Meaning.{Meaning}
-use Rattle.machine.specs.declared.Registers.{Registers}
 use Rattle.machine.specs.declared.Context.{Context}
 use Rattle.machine.specs.declared.Record.{Record}
 use Rattle.machine.specs.Lines.{noted_all, one, stalls}

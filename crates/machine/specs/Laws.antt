@@ -1,7 +1,6 @@
 -- The laws of histories, and what they alone do not pin.
 use Rattle.std.specs.Prelude.{◌≡◌, ℕ, suc, ◌+◌, ◌-◌, ◌%◌, ◌^◌, ◌<◌, ◌≤◌, true, false, ◌⊎◌, List, [], ◌∷◌, length, take, drop, slice_index}
 use Rattle.bus.specs.Meaning.{Meaning, Still}
-use Rattle.machine.specs.declared.Context.{Context}
 use Rattle.machine.specs.Lines.{ticking, stalled, unstalled}
 use Rattle.machine.specs.State.{Boundary, State, live, boundary_of}
 use Rattle.machine.specs.Isa.{Isa, Pace, storing, stepping, plain}

@@ -1,5 +1,5 @@
 -- A memory keeps what is written.
-use Rattle.std.proofs.Common.{◌≡◌, ℕ, zero, suc, ◌/◌, ◌%◌, ◌^◌, ◌<◌, Bool, true, false, cond, ◌≢◌, List, [], ◌∷◌, get_or, sym, ap, ◌∙◌, mod-eq_of_lt, arith, get_or-set_other, get_or-set_same}
+use Rattle.std.proofs.Common.{◌≡◌, ℕ, zero, suc, ◌/◌, ◌%◌, ◌^◌, ◌<◌, Bool, true, false, cond, ◌≢◌, [], ◌∷◌, get_or, sym, ap, ◌∙◌, mod-eq_of_lt, arith, get_or-set_other, get_or-set_same}
 use lib.ListN.{get_or-eq_default}
 use Rattle.std.proofs.lemmas.List.{set_past}
 use Rattle.bus.specs.Lanes.{in_lane, merged, marked, all_marked}

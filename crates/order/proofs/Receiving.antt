@@ -1,5 +1,5 @@
 -- What the standard card holds after a field was stored at byte addresses 0 to 3.
-use Rattle.std.proofs.Common.{◌≡◌, ℕ, ◌+◌, ◌%◌, ◌^◌, ◌<◌, List, [], ◌∷◌, ◌++◌, length, get_or, take, replicate, sym, refl, ap, ◌∙◌, append_assoc, mod-eq_of_lt, arith, take_all, drop_at}
+use Rattle.std.proofs.Common.{◌≡◌, ℕ, ◌%◌, ◌^◌, ◌<◌, List, [], ◌∷◌, ◌++◌, length, get_or, take, replicate, sym, refl, ap, ◌∙◌, append_assoc, mod-eq_of_lt, arith, take_all, drop_at}
 use lib.ListN.{length-replicate}
 use Rattle.std.proofs.lemmas.List.{take-replicate}
 use Rattle.bus.specs.declared.Marks.{Marks}

@@ -1,6 +1,6 @@
 -- The clocks of the multiplier and of the divider come to the exact product, quotient and rest.
-use mathlib.Core.Path.{◌≡◌, refl, sym, ap, ap₂, ◌∙◌}
-use Prim.Native.Nat.{ℕ, zero, suc, ◌<◌, ◌≤◌, ◌%◌, ◌^◌}
+use mathlib.Core.Path.{◌≡◌, refl, ap, ap₂, ◌∙◌}
+use Prim.Native.Nat.{ℕ, zero, suc, ◌<◌, ◌^◌}
 use native.Mathlib.Omega.{arith}
 use lib.Dec.{lit<}
 use Rattle.isa.specs.declared.Kind.{Kind}
@@ -10,14 +10,14 @@ use Rattle.isa.proofs.Counts.{at_least_one}
 use Rattle.unit.specs.declared.Pair.{Pair}
 use Rattle.unit.specs.declared.Factors.{Factors}
 use Rattle.unit.specs.declared.Division.{Division}
-use Rattle.unit.specs.Waiting.{carried, carried_after}
+use Rattle.unit.specs.Waiting.{carried_after}
 use Rattle.unit.specs.Steps.{mul_start, mul_step, mul_answer, div_start, div_step, div_answer}
 use Rattle.unit.proofs.Waitings.{waits}
 use Rattle.unit.proofs.Products.{product-words}
 use Rattle.unit.proofs.Divisions.{division-words}
 use Rattle.machine.specs.declared.Registers.{Registers}
 use Rattle.machine.specs.State.{rest}
-use Rattle.machine.specs.Isa.{Class, loading, storing, stepping, plain, Lawful, turns}
+use Rattle.machine.specs.Isa.{stepping, Lawful, turns}
 use Rattle.risc5.specs.Registers.{given}
 use Rattle.risc5.specs.Units.{factors, division, multiplying, dividing, multiplied_by, divided_by, multiplied, divided}
 use Rattle.risc5.specs.Set.{class_by, effect_by, turn_by, result_by, card, pace}

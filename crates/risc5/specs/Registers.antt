@@ -1,5 +1,5 @@
 -- What instruction words do to the registers.
-use Rattle.std.specs.Prelude.{Bool, cond, ◌&&◌, ℕ, ◌%◌, ◌^◌, get_or, set}
+use Rattle.std.specs.Prelude.{cond, ◌&&◌, ℕ, ◌%◌, ◌^◌, get_or, set}
 use Rattle.isa.specs.declared.Sent.{Sent}
 use Rattle.isa.specs.declared.Operation.{Operation}
 use Rattle.isa.specs.Word.{q, v, a, b, c, constant}

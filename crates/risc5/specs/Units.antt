@@ -2,7 +2,6 @@
 use Rattle.std.specs.Prelude.{not, ℕ}
 use Rattle.isa.specs.Word.{u, b}
 use Rattle.unit.specs.declared.Pair.{Pair}
-use Rattle.unit.specs.declared.Words.{Words}
 use Rattle.unit.specs.declared.Factors.{Factors}
 use Rattle.unit.specs.declared.Division.{Division}
 use Rattle.unit.specs.Waiting.{carried}

@@ -7,8 +7,8 @@ use deck_run::Failure;
 use machine::Record;
 use refusal::Refusal;
 use std::io;
-use std::process::ExitCode;
 use std::io::Read;
+use std::process::ExitCode;
 
 // One byte more than the longest deck has, so that a longer one is refused and not cut.
 const MOST_BYTES: u64 = 65_521;

@@ -245,7 +245,7 @@ impl Second {
 
     /// Whether a line is stalled.
     pub fn stalled(line: u8) -> bool
-        ensures { result ≡ (line / 2 % 2 == 1) }
+        ensures { result ≡ ((line / 2 % 2) == 1) }
     {
         line / 2 % 2 == 1
     }

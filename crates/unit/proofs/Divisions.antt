@@ -7,7 +7,7 @@ use Rattle.std.proofs.lemmas.Bool.Decides.{nat_tests}
 use Rattle.unit.specs.declared.Words.{Words}
 use Rattle.unit.specs.declared.Division.{Division}
 use Rattle.unit.specs.After.{after}
-use Rattle.unit.specs.Steps.{rest, div_start, div_step, div_answer}
+use Rattle.unit.specs.Steps.{div_start, div_step, div_answer}
 use Rattle.unit.specs.Exact.{plain_step, as_pair, quotient, remainder, Divided, DivisionIsPlain, DivisionIsExact, DivisionWords}
 
 -- After k steps: with W = r × 2^32 + d, W = 2^k b - q (n × 2^32 - 1), where q is the quotient so far.

@@ -1,5 +1,4 @@
-use Rattle.std.proofs.Common.{◌≡◌, ℕ, ◌≤◌, List, length, drop, Result, sym, ap, ◌∙◌, subst}
-use Rattle.refusal.specs.declared.Refusal.{Refusal}
+use Rattle.std.proofs.Common.{◌≡◌, ℕ, ◌≤◌, length, drop, sym, ap, ◌∙◌, subst}
 use Rattle.machine.specs.State.{State}
 use Rattle.cpu.specs.Cores.{state}
 use Rattle.history.specs.Asked.{wrote_by}

@@ -1,4 +1,4 @@
-use Rattle.std.proofs.Common.{◌≡◌, ℕ, ◌+◌, ◌-◌, ◌≤◌, List, length, take, drop, sym, ap, ◌∙◌, subst, arith}
+use Rattle.std.proofs.Common.{◌≡◌, ℕ, ◌-◌, ◌≤◌, List, length, take, drop, sym, subst, arith}
 use borrow.Rule.Slice.PartMut.{put_mid}
 use Rattle.machine.specs.declared.Record.{Record}
 use Rattle.machine.specs.State.{State}

@@ -1,5 +1,4 @@
 use Rattle.std.proofs.Common.{◌≡◌, ℕ, ◌+◌, ◌<◌, length, get_or, take, sym, refl, ap, ◌∙◌, ap₂, arith, take_all}
-use mir.Val.{bool_byte}
 use Rattle.machine.specs.Lines.{one, stalls}
 use Rattle.machine.specs.State.{State}
 use Rattle.machine.specs.Clock.{clock, run, ends, counted, finished}

@@ -1,6 +1,5 @@
-use Rattle.std.proofs.Common.{◌≡◌, sym, refl, ap, ◌∙◌, rules}
+use Rattle.std.proofs.Common.{ap, ◌∙◌}
 use Rattle.machine.specs.declared.Context.{Context}
-use Rattle.machine.specs.declared.Core.{Core}
 use Rattle.machine.specs.State.{rest}
 use Rattle.cpu.proofs.Ending.{finish_with}
 use Rattle.cpu.proofs.Live.end.Goals as goal

@@ -1,4 +1,4 @@
-use Rattle.std.proofs.Common.{◌≡◌, ℕ, List, ap, ◌∙◌, ap₂}
+use Rattle.std.proofs.Common.{ℕ, List, ap, ◌∙◌, ap₂}
 use Rattle.machine.specs.declared.Context.{Context}
 use Rattle.machine.specs.State.{with_ticks}
 use Rattle.machine.specs.Clock.{finish_at}

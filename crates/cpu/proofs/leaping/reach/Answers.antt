@@ -1,5 +1,4 @@
-use Rattle.std.proofs.Common.{◌≡◌, sym, refl, ◌∙◌, inl, inr, rules}
-use Rattle.isa.specs.declared.Kind.{Kind}
+use Rattle.std.proofs.Common.{sym, refl, ◌∙◌, inl, inr, rules}
 use Rattle.isa.specs.declared.Kind.TheVariants.{Register, Multiply, Divide, Branch}
 use Rattle.machine.specs.Instructions.{ready_at}
 use Rattle.cpu.proofs.Reaching.{only_passes}

@@ -1,6 +1,6 @@
-use Rattle.std.proofs.Common.{◌≡◌, ℕ, pred, ◌+◌, ◌-◌, ◌<◌, ◌≤◌, [], length, take, drop, sym, refl, ap, ◌∙◌, subst, arith, w16, Fits}
-use Rattle.machine.specs.Lines.{noted, noted_all}
-use Rattle.machine.specs.Shares.{cut, cut_after, ahead}
+use Rattle.std.proofs.Common.{◌≡◌, ℕ, pred, ◌+◌, ◌-◌, ◌<◌, [], length, take, drop, sym, refl, ap, ◌∙◌, subst, arith}
+use Rattle.machine.specs.Lines.{noted}
+use Rattle.machine.specs.Shares.{cut, cut_after}
 use Rattle.cpu.specs.Measures.{measured, Well}
 use Rattle.machine.proofs.Cuts.{cut_good}
 use Rattle.cpu.proofs.Scans.{past, past-none, scan_wait, scan_work, scan_last, scan_none, noted_more, ahead-work, ahead-all, ahead_some, measured-last, measured_well}

@@ -1,4 +1,4 @@
-use Rattle.std.proofs.Common.{◌≡◌, ℕ, pred, ◌≤◌, take, drop}
+use Rattle.std.proofs.Common.{◌≡◌, ◌≤◌, take, drop}
 use Rattle.machine.specs.Lines.{noted_all}
 use Rattle.machine.specs.Shares.{cut, cut_after, ahead}
 use Rattle.cpu.proofs.Scans.{past}

@@ -1,4 +1,4 @@
-use Rattle.std.proofs.Common.{◌≡◌, ℕ, get_or}
+use Rattle.std.proofs.Common.{ℕ, get_or}
 use Rattle.machine.specs.State.{State}
 use Rattle.cpu.specs.Cores.{state}
 use Rattle.history.proofs.Stepping.{stepped}

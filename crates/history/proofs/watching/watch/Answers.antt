@@ -1,4 +1,4 @@
-use Rattle.std.proofs.Common.{◌≡◌, ℕ, ◌+◌, ◌%◌, ◌^◌, ◌<◌, ◌≤◌, List, length, take, sym, refl, ap, ◌∙◌, arith}
+use Rattle.std.proofs.Common.{◌≡◌, ℕ, ◌+◌, ◌%◌, ◌^◌, ◌<◌, length, take, sym, refl, ap, ◌∙◌, arith}
 use Rattle.machine.specs.State.{State}
 use Rattle.machine.specs.Clock.{run}
 use Rattle.risc5.specs.Set.{card, pace}

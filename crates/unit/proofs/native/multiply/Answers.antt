@@ -1,4 +1,4 @@
-use Rattle.std.proofs.Common.{◌≡◌, Bool, ℤ, ◌*ℤ◌, sym, ap, ◌∙◌, arith, w64, to_z, of_z}
+use Rattle.std.proofs.Common.{◌≡◌, Bool, ◌*ℤ◌, sym, ap, ◌∙◌, arith, w64, to_z, of_z}
 use borrow.Author.Differences.{ints}
 use Rattle.unit.specs.Steps.{read}
 use Rattle.unit.specs.Exact.{words_of, product}
