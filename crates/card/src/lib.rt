@@ -2,7 +2,7 @@
 #![tactic(auto)]
 
 ghost use Rattle.std.specs.Prelude.{◌≡◌, [], length, replicate, IfOk};
-ghost use Rattle.refusal.specs.Heard.{heard, first_of};
+ghost use Rattle.refusal.specs.Heard.{heard, first_heard};
 ghost use Rattle.memory.specs.Words.{words_refusal};
 ghost use Rattle.panel.specs.Cells.{feed_refusal};
 ghost use Rattle.rom.specs.Boot.{ShowsBoot};
@@ -22,7 +22,7 @@ pub type Card = Panel<Rom<Memory>>;
 
 /// Whether a card may be made of these words and this feed: the words first.
 pub fn check(words: &[u32], feed: &[u8]) -> Result<(), Refusal>
-    ensures { heard result ≡ first_of (words_refusal (length words.now)) (feed_refusal (length feed.now)) }
+    ensures { heard result ≡ first_heard (words_refusal (length words.now)) (feed_refusal (length feed.now)) }
 {
     memory::check(words)?;
     panel::check(feed)

@@ -2,7 +2,7 @@
 use Rattle.std.proofs.Common.{◌≡◌, ℕ, Bool, true, false, cond, eqb, ltb, List, length, Some, None, Option, Result, refl, ap, ◌∙◌}
 use Rattle.refusal.specs.declared.Refusal.{Refusal}
 use Rattle.refusal.specs.declared.Refusal.TheVariants.{LinesTooMany, LineValue, InsideInstruction}
-use Rattle.refusal.specs.Heard.{heard, refused, nothing, first_of}
+use Rattle.refusal.specs.Heard.{heard, refused, nothing, first_heard}
 use Rattle.machine.specs.Histories.{first_over, lines_refused, leap_refused}
 use Rattle.cpu.specs.Calls.{answer_by, lines_heard, leap_heard}
 
@@ -18,7 +18,7 @@ module _ {X : Type 0} (x : X) where
   lines-by false false k = refl
 
   leap_by : (t u v : Bool) (k : ℕ) → (let o : Option Refusal = cond t (Some LinesTooMany) (cond u (Some (LineValue k)) None) in
-      heard (answer_by (or_else v o) x) ≡ first_of (cond t (refused 5 2 0) (cond u (refused 6 2 k) nothing)) (cond v nothing (refused 7 2 0)))
+      heard (answer_by (or_else v o) x) ≡ first_heard (cond t (refused 5 2 0) (cond u (refused 6 2 k) nothing)) (cond v nothing (refused 7 2 0)))
   leap_by true u v k = refl
   leap_by false true v k = refl
   leap_by false false true k = refl

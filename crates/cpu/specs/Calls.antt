@@ -2,7 +2,7 @@
 use Rattle.std.specs.Prelude.{ℕ, ◌≤◌, cond, List, [], ◌++◌, length, take, drop, Some, None, Ok, Err, Option, Result, ◌==◌, nat_lt}
 use Rattle.bus.specs.Meaning.{Meaning}
 use Rattle.refusal.specs.declared.Refusal.{Refusal}
-use Rattle.refusal.specs.Heard.{Told, refused, nothing, first_of}
+use Rattle.refusal.specs.Heard.{Told, refused, nothing, first_heard}
 use Rattle.machine.specs.declared.Record.{Record}
 use Rattle.machine.specs.Lines.{stalls}
 use Rattle.machine.specs.State.{State, live}
@@ -33,7 +33,7 @@ lines_heard ls =
 
 -- and of a leap: 7 of a core inside an instruction
 abbrev pub leap_heard : List ℕ → ℕ → Option Told
-leap_heard ls step = first_of (lines_heard ls) (cond (step == 0) nothing (refused 7 2 0))
+leap_heard ls step = first_heard (lines_heard ls) (cond (step == 0) nothing (refused 7 2 0))
 
 -- ---- clocking: the clock rules over all lines
 

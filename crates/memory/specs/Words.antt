@@ -1,6 +1,7 @@
 -- What a memory means: its contents are its words, from address 0 on.
 use Rattle.std.specs.Prelude.{ℕ, ◌%◌, ◌^◌, cond, ◌||◌, List, Option, ◌==◌, nat_lt, slice_index, slice_set, refl}
-use Rattle.std.proofs.Common.{arith}
+use Rattle.std.proofs.Common.{lit<}
+use Rattle.std.proofs.Math.Nat.{mod-lt}
 use Rattle.refusal.specs.Heard.{Told, refused, nothing}
 use Rattle.bus.specs.Lanes.{merged}
 use Rattle.bus.specs.declared.Marks.{Marks}
@@ -25,7 +26,7 @@ memory_meaning = record {
   read = λ h at. h;
   write = memory_write;
   passed = λ h n. h;
-  fits = λ h at. omega arith;
+  fits = λ h at. mod-lt (slice_index h at) (lit< tt);
   none = λ h. refl;
   more = λ h a b. refl;
 }

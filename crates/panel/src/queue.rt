@@ -16,7 +16,7 @@ pub struct Feed {
     taken: u8,
     count: u8,
     bytes: [u8; 64],
-    ghost old: { age ≤ 833920 },
+    ghost young: { age ≤ 833920 },
     ghost some: { taken ≤ count },
     ghost most: { count ≤ 64 },
     ghost whole: { length bytes ≡ 64 },
@@ -51,14 +51,14 @@ impl Feed {
 
     // Whether a byte has arrived and was not taken.
     fn ready(&self) -> bool
-        ensures { result ≡ arrived self.entry.now.age self.entry.now.taken self.entry.now.count }
+        ensures { result ≡ arrived self.now.age self.now.taken self.now.count }
     {
         self.taken < self.count && BYTE_CLOCKS * (self.taken as u32 + 1) <= self.age
     }
 
     // What a cell shows.
     pub(crate) fn show(&self, k: u32) -> u32
-        ensures { result ≡ cell self.entry.now.age self.entry.now.taken self.entry.now.count self.entry.now.bytes k }
+        ensures { result ≡ cell self.now.age self.now.taken self.now.count self.now.bytes k }
     {
         if !self.ready() {
             return 0;
@@ -72,10 +72,10 @@ impl Feed {
 
     // A read of a cell: one of cell 2 takes the byte that is shown there.
     pub(crate) fn take(&mut self, k: u32)
-        ensures age { self.exit.now.age ≡ self.entry.now.age }
-        ensures taken { self.exit.now.taken ≡ taken_after self.entry.now.age self.entry.now.taken self.entry.now.count k }
-        ensures count { self.exit.now.count ≡ self.entry.now.count }
-        ensures bytes { self.exit.now.bytes ≡ self.entry.now.bytes }
+        ensures age { self.new.age ≡ self.old.age }
+        ensures taken { self.new.taken ≡ taken_after self.old.age self.old.taken self.old.count k }
+        ensures count { self.new.count ≡ self.old.count }
+        ensures bytes { self.new.bytes ≡ self.old.bytes }
     {
         if k == 2 && self.ready() {
             self.taken += 1;
@@ -83,10 +83,10 @@ impl Feed {
     }
 
     pub(crate) fn pass(&mut self, clocks: u16)
-        ensures age { self.exit.now.age ≡ aged self.entry.now.age clocks }
-        ensures taken { self.exit.now.taken ≡ self.entry.now.taken }
-        ensures count { self.exit.now.count ≡ self.entry.now.count }
-        ensures bytes { self.exit.now.bytes ≡ self.entry.now.bytes }
+        ensures age { self.new.age ≡ aged self.old.age clocks }
+        ensures taken { self.new.taken ≡ self.old.taken }
+        ensures count { self.new.count ≡ self.old.count }
+        ensures bytes { self.new.bytes ≡ self.old.bytes }
     {
         self.age += (clocks as u32).min(LAST_AGE - self.age);
     }

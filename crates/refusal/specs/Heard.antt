@@ -42,6 +42,6 @@ abbrev pub nothing : Option Told
 nothing = None
 
 -- of two checks in one call, what is heard of the first, else of the second
-abbrev pub first_of : Option Told → Option Told → Option Told
-first_of None second = second
-first_of (Some first) second = Some first
+abbrev pub first_heard : Option Told → Option Told → Option Told
+first_heard None second = second
+first_heard (Some first) second = Some first
