@@ -12,8 +12,8 @@ module _ (a b c d : ℕ) (fa : a < 256) (fb : b < 256) (fc : c < 256) (fd : d < 
   parted (suc (suc (suc (suc lane)))) lt = absurd (omega arith)
 
   -- they make a word
-  pub joined-fits : joined (a ∷ b ∷ c ∷ d ∷ []) < 2 ^ 32
-  joined-fits = omega arith
+  pub joined_fits : joined (a ∷ b ∷ c ∷ d ∷ []) < 2 ^ 32
+  joined_fits = omega arith
 
 same_four : {p q r s p' q' r' s' : ℕ} → p ≡ p' → q ≡ q' → r ≡ r' → s ≡ s' → joined (p ∷ q ∷ r ∷ s ∷ []) ≡ joined (p' ∷ q' ∷ r' ∷ s' ∷ [])
 same_four e f g h = cc

@@ -10,7 +10,7 @@ use Rattle.rom.specs.Table.{in_rom, rom_meaning, rom_read, rom_write}
 use Rattle.panel.specs.Cells.{on_panel}
 use Rattle.rom.proofs.Roms.{boot_shown}
 use Rattle.panel.proofs.Handing.{table_long}
-use Rattle.panel.proofs.Panels.{held, below-shown}
+use Rattle.panel.proofs.Panels.{held, below_shown}
 use Rattle.memory.specs.declared.Memory.{Memory}
 use Rattle.rom.specs.declared.Rom.{Rom}
 use Rattle.panel.specs.declared.Panel.{Panel}
@@ -40,7 +40,7 @@ pub new_shows_boot : (h words feed : List ℕ) → h ≡ new_card words feed →
 new_shows_boot h words feed is k lt =
     let below = boot_image ++ take 262144 words in
     ap (λ x. card_meaning.shown x (0x3FF800 + k)) is
-    ∙ sym (below-shown (rom_meaning memory_meaning) 0 0 (min 64 (length feed)) (filled 64 feed) below (0x3FF800 + k) (table_long feed) (off_panel (0x3FF800 + k) (omega arith)))
+    ∙ sym (below_shown (rom_meaning memory_meaning) 0 0 (min 64 (length feed)) (filled 64 feed) below (0x3FF800 + k) (table_long feed) (off_panel (0x3FF800 + k) (omega arith)))
     ∙ boot_shown memory_meaning boot_image (take 262144 words) refl k lt
 
 -- the contents by its layers

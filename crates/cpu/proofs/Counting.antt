@@ -14,17 +14,17 @@ module _ (M : Meaning) (xs : List ℕ) (i : ℕ) (h : i < length xs) where
   pub run_more : (s : State) → run M card pace (take (i + 1) xs) s ≡ clock M card pace (get_or xs i 0) (run M card pace (take i xs) s)
   run_more s = fold_more (λ (e : State) (l : ℕ). clock M card pace l e) s xs i 0 h
 
-  pub finished-more : (s : State)
+  pub finished_more : (s : State)
       → finished M card pace (take (i + 1) xs) s ≡ finished M card pace (take i xs) s + one (ends M card pace (get_or xs i 0) (run M card pace (take i xs) s))
   unfolding counted
-  finished-more s =
+  finished_more s =
       ap (λ (ls : List ℕ). finished M card pace ls s) (take_more xs i 0 h)
       ∙ counted-append M card pace (ends M card pace) (take i xs) (get_or xs i 0 ∷ []) s
       ∙ ap (λ (n : ℕ). finished M card pace (take i xs) s + n) (add-zero _)
 
-  pub stalls-more : stalls (take (i + 1) xs) ≡ stalls (take i xs) + one (stalled (get_or xs i 0))
+  pub stalls_more : stalls (take (i + 1) xs) ≡ stalls (take i xs) + one (stalled (get_or xs i 0))
   unfolding stalls
-  stalls-more =
+  stalls_more =
       ap stalls (take_more xs i 0 h) ∙ stalls-append (take i xs) (get_or xs i 0 ∷ []) ∙ ap (λ (n : ℕ). stalls (take i xs) + n) (add-zero _)
 
 -- a flag as a number

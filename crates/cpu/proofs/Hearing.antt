@@ -12,10 +12,10 @@ or_else v None = cond v None (Some InsideInstruction)
 
 module _ {X : Type 0} (x : X) where
   -- t: too many lines; u: one at place k over 3; v: at step number 0
-  lines-by : (t u : Bool) (k : ℕ) → heard (answer_by (cond t (Some LinesTooMany) (cond u (Some (LineValue k)) None)) x) ≡ cond t (refused 5 2 0) (cond u (refused 6 2 k) nothing)
-  lines-by true u k = refl
-  lines-by false true k = refl
-  lines-by false false k = refl
+  lines_by : (t u : Bool) (k : ℕ) → heard (answer_by (cond t (Some LinesTooMany) (cond u (Some (LineValue k)) None)) x) ≡ cond t (refused 5 2 0) (cond u (refused 6 2 k) nothing)
+  lines_by true u k = refl
+  lines_by false true k = refl
+  lines_by false false k = refl
 
   leap_by : (t u v : Bool) (k : ℕ) → (let o : Option Refusal = cond t (Some LinesTooMany) (cond u (Some (LineValue k)) None) in
       heard (answer_by (or_else v o) x) ≡ first_heard (cond t (refused 5 2 0) (cond u (refused 6 2 k) nothing)) (cond v nothing (refused 7 2 0)))
@@ -26,7 +26,7 @@ module _ {X : Type 0} (x : X) where
 
   pub lines_heard_lem : (ls : List ℕ) (r : Result X Refusal) → r ≡ answer_by (lines_refused ls) x → heard r ≡ lines_heard ls
   unfolding lines_refused
-  lines_heard_lem ls r e = ap (λ (i : Result X Refusal). heard i) e ∙ lines-by (ltb 65535 (length ls)) (ltb (first_over ls) (length ls)) (first_over ls)
+  lines_heard_lem ls r e = ap (λ (i : Result X Refusal). heard i) e ∙ lines_by (ltb 65535 (length ls)) (ltb (first_over ls) (length ls)) (first_over ls)
 
   pub leap_heard_lem : (ls : List ℕ) (step : ℕ) (r : Result X Refusal) → r ≡ answer_by (leap_refused ls step) x → heard r ≡ leap_heard ls step
   unfolding lines_refused leap_refused

@@ -11,7 +11,7 @@ use Rattle.machine.specs.Shares.{Cut, short, whole, ahead, remains}
 use Rattle.machine.specs.Instructions.{ready_at, before, instruction, recorded, Run, stop, share, leaps}
 use Rattle.machine.proofs.Cuts.{Good, cut_good}
 use Rattle.machine.proofs.Waits.{owed_pred}
-use Rattle.machine.proofs.Runs.{share-stalls, leaps-next, leaps-end}
+use Rattle.machine.proofs.Runs.{share-stalls, leaps_next, leaps_end}
 use Rattle.risc5.specs.Set.{card, pace}
 use Rattle.risc5.proofs.Fitting.{fits}
 use Rattle.cpu.specs.declared.leaping.Share.{Share}
@@ -29,19 +29,19 @@ onto-onto rs e u n r =
 
 module _ (M : Meaning) where
   -- one instruction more
-  by-share : (room : ℕ) (s : Boundary) (ls : List ℕ) (x : Share) (c : Cut) → share M card pace s ls ≡ c → Good (pred (clocks_of s.context.fetched.ir)) ls c
+  by_share : (room : ℕ) (s : Boundary) (ls : List ℕ) (x : Share) (c : Cut) → share M card pace s ls ≡ c → Good (pred (clocks_of s.context.fetched.ir)) ls c
       → Some x ≡ measured s.context.ticks c
       → leaps M card pace (suc room) s ls ≡ onto (record_of s.context x (clocks_of s.context.fetched.ir) ∷ []) (x.before + 1) (leaps M card pace room (after_share M s x) (drop (x.before + 1) ls))
   unfolding instruction recorded ready_at
-  by-share room s ls x short e g q = let z : ◌≡◌ {A = ℕ} 0 1 = cc in absurd (omega arith)
-  by-share room s ls x (whole b l left) e g q =
+  by_share room s ls x short e g q = let z : ◌≡◌ {A = ℕ} 0 1 = cc in absurd (omega arith)
+  by_share room s ls x (whole b l left) e g q =
       let n : ℕ = clocks_of s.context.fetched.ir in
       let y : Share = record { before = length b; ahead = ahead b; last = l; ticks = noted_all b s.context.ticks } in
       let p : x ≡ y = cc in
       let k : stalls b ≡ length b - (n - 1) = omega (arith, share-stalls g.0, owed_pred M card pace fits s.context.fetched.ir s.context.registers) in
       let d : left ≡ drop (length b + 1) ls =
-      sym (ap (drop (length b + 1)) g.1 ∙ ap (λ (j : ℕ). drop j (b ++ (l ∷ left))) (add-one (length b)) ∙ drop-end b l left) in
-      leaps-next M card pace room s ls b l left e
+      sym (ap (drop (length b + 1)) g.1 ∙ ap (λ (j : ℕ). drop j (b ++ (l ∷ left))) (add-one (length b)) ∙ drop_end b l left) in
+      leaps_next M card pace room s ls b l left e
       ∙ ap₂ (λ (i : ℕ) (j : ℕ). record {
         state = (leaps M card pace room (instruction M card b l s) left).state;
         records =
@@ -59,9 +59,9 @@ module _ (M : Meaning) where
       ∙ ap (λ (r : List ℕ). onto (record_of s.context y n ∷ []) (y.before + 1) (leaps M card pace room (after_share M s y) r)) d
       ∙ ap (λ (v : Share). onto (record_of s.context v n ∷ []) (v.before + 1) (leaps M card pace room (after_share M s v) (drop (v.before + 1) ls))) (sym p)
     where
-      drop-end : (b : List ℕ) (l : ℕ) (left : List ℕ) → drop (suc (length b)) (b ++ (l ∷ left)) ≡ left
-      drop-end [] l left = refl
-      drop-end (x ∷ b) l left = drop-end b l left
+      drop_end : (b : List ℕ) (l : ℕ) (left : List ℕ) → drop (suc (length b)) (b ++ (l ∷ left)) ≡ left
+      drop_end [] l left = refl
+      drop_end (x ∷ b) l left = drop_end b l left
 
   module _ (R : Run) (t : List Record) (room w u : ℕ) (s : Boundary) (ls : List ℕ) (inv : R ≡ onto (take w t) u (leaps M card pace (room - w) s ls)) where
     pub leap_again : (x : Share) → Some x ≡ measured s.context.ticks (share M card pace s ls) → w < room → w < length t
@@ -72,18 +72,18 @@ module _ (M : Meaning) where
         let n : room - w ≡ suc (room - (w + 1)) = omega arith in
         inv
         ∙ ap (λ (j : ℕ). onto (take w t) u (leaps M card pace j s ls)) n
-        ∙ ap (onto (take w t) u) (by-share (room - (w + 1)) s ls x (share M card pace s ls) refl (cut_good (pred (clocks_of s.context.fetched.ir)) ls) q)
+        ∙ ap (onto (take w t) u) (by_share (room - (w + 1)) s ls x (share M card pace s ls) refl (cut_good (pred (clocks_of s.context.fetched.ir)) ls) q)
         ∙ onto-onto (take w t) e u (x.before + 1) _
         ∙ ap (λ (r : List Record). onto r (u + (x.before + 1)) (leaps M card pace (room - (w + 1)) (after_share M s x) (drop (x.before + 1) ls))) (sym (take_more_set t w e i))
 
     abbrev stopped : Run
     stopped = record { state = s; records = take w t; used = u; left = ls }
 
-    stop-onto : onto (take w t) u (stop s ls) ≡ stopped
-    stop-onto = ap₂ (λ (x : List Record) (y : ℕ). record { state = s; records = x; used = y; left = ls }) (append-nil (take w t)) (add-zero u)
+    stop_onto : onto (take w t) u (stop s ls) ≡ stopped
+    stop_onto = ap₂ (λ (x : List Record) (y : ℕ). record { state = s; records = x; used = y; left = ls }) (append-nil (take w t)) (add-zero u)
 
     no_share : (c : Cut) → share M card pace s ls ≡ c → None ≡ measured s.context.ticks c → (R ≡ stopped) × (remains c ≡ 0)
-    no_share short e q = (inv ∙ ap (onto (take w t) u) (leaps-end M card pace (room - w) s ls e) ∙ stop-onto, refl)
+    no_share short e q = (inv ∙ ap (onto (take w t) u) (leaps_end M card pace (room - w) s ls e) ∙ stop_onto, refl)
     no_share (whole b l left) e q = let z : ◌≡◌ {A = ℕ} 0 1 = cc in absurd (omega arith)
 
     no_room : (c : Cut) (x : Share) → Some x ≡ measured s.context.ticks c → w ≡ room → (R ≡ stopped) × (remains c ≡ 1)
@@ -91,7 +91,7 @@ module _ (M : Meaning) where
     no_room short x q h = let z : ◌≡◌ {A = ℕ} 0 1 = cc in absurd (omega arith)
     no_room (whole b l left) x q h =
         let z : room - w ≡ 0 = omega arith in
-        (inv ∙ ap (λ (j : ℕ). onto (take w t) u (leaps M card pace j s ls)) z ∙ stop-onto, refl)
+        (inv ∙ ap (λ (j : ℕ). onto (take w t) u (leaps M card pace j s ls)) z ∙ stop_onto, refl)
 
     -- what a leap gives at its end
     pub record Leapt (t0 : List Record) (more : ℕ) : Type 0 where

@@ -23,5 +23,5 @@ part xs rest at len start n s r e =
     let same : n - 0 ≡ min len (length rest) = omega arith in
     ap (λ m. take m rest) same ∙ (take_clipped len rest ∙ ap (take len) whole)
 
-pub part-size : (rest : List ℕ) (len n : ℕ) → n ≡ min len (length rest) → length (take (n - 0) rest) ≤ len
-part-size rest len n e = omega (arith, length-take (n - 0) rest)
+pub part_size : (rest : List ℕ) (len n : ℕ) → n ≡ min len (length rest) → length (take (n - 0) rest) ≤ len
+part_size rest len n e = omega (arith, length-take (n - 0) rest)

@@ -17,8 +17,8 @@ ok_err x e h = let z : ◌≡◌ {A = ℕ} 0 1 = cc in omega arith
 pub lines_more : (ds : List Deed) (d : Deed) → all_lines (ds ++ (d ∷ [])) ≡ all_lines ds ++ lines_of d
 lines_more ds d = sym (flat_map_more lines_of [] ds d)
 
-pub count-more : (ds : List Deed) (d : Deed) → length (all_lines (ds ++ (d ∷ []))) ≡ length (all_lines ds) + length (lines_of d)
-count-more ds d = ap length (lines_more ds d) ∙ length-append (all_lines ds) (lines_of d)
+pub count_more : (ds : List Deed) (d : Deed) → length (all_lines (ds ++ (d ∷ []))) ≡ length (all_lines ds) + length (lines_of d)
+count_more ds d = ap length (lines_more ds d) ∙ length-append (all_lines ds) (lines_of d)
 
 counted_test : (t : Bool) (ds : List Deed) (e : Told) → counted (cond t (Ok ds) (Err e)) ≡ cond t (Ok (length (all_lines ds))) (Err e)
 counted_test true ds e = refl
@@ -30,7 +30,7 @@ counted_step (Err e) s m k used h = absurd (ok_err used e (sym h))
 counted_step (Ok ds) (Err e) m k used h = refl
 counted_step (Ok ds) (Ok d) m k used h =
     counted_test (leb (length (all_lines (ds ++ (d ∷ [])))) (min m 65535)) (ds ++ (d ∷ [])) _
-    ∙ ap (λ (n : ℕ). cond (leb n (min m 65535)) (Ok n) (refused_at 12 k)) (count-more ds d ∙ ap (λ (n : ℕ). n + length (lines_of d)) (ok_same _ used h))
+    ∙ ap (λ (n : ℕ). cond (leb n (min m 65535)) (Ok n) (refused_at 12 k)) (count_more ds d ∙ ap (λ (n : ℕ). n + length (lines_of d)) (ok_same _ used h))
 
 -- an answer that was given under a test
 pub tested : {A : Type 0} (t : Bool) (x y : A) (e : Told) → cond t (Ok x) (Err e) ≡ Ok y → (t ≡ true) × (x ≡ y)
@@ -47,13 +47,13 @@ module _ (bs : List ℕ) (w m : ℕ) where
   pub more : (k u : ℕ) → counted (first_deeds bs w m k) ≡ Ok u → counted (first_deeds bs w m (k + 1)) ≡ and_then (row_says bs w k) (λ d. room_for m k u d)
   more k u h = rw (add-one k) (counted_step (first_deeds bs w m k) (row_says bs w k) m k u h)
 
-  refused-step : (r : Result (List Deed) Told) (e : Told) (f : List Deed → Result (List Deed) Told) → counted r ≡ Err e → counted (and_then r f) ≡ Err e
-  refused-step (Ok ds) e f h = absurd (ok_err _ e h)
-  refused-step (Err e') e f h = h
+  refused_step : (r : Result (List Deed) Told) (e : Told) (f : List Deed → Result (List Deed) Told) → counted r ≡ Err e → counted (and_then r f) ≡ Err e
+  refused_step (Ok ds) e f h = absurd (ok_err _ e h)
+  refused_step (Err e') e f h = h
 
   stays_by : (k d : ℕ) (e : Told) → counted (first_deeds bs w m k) ≡ Err e → counted (first_deeds bs w m (k + d)) ≡ Err e
   stays_by k zero e h = rw add-zero h
-  stays_by k (suc d) e h = rw add-suc (refused-step (first_deeds bs w m (k + d)) e _ (stays_by k d e h))
+  stays_by k (suc d) e h = rw add-suc (refused_step (first_deeds bs w m (k + d)) e _ (stays_by k d e h))
 
   -- a refusal stays, whatever rows follow
   pub stays : (k n : ℕ) (e : Told) → k < n → counted (first_deeds bs w m (k + 1)) ≡ Err e → counted (first_deeds bs w m n) ≡ Err e

@@ -5,33 +5,33 @@ use Rattle.deck.specs.Decks.{lines_of, all_lines}
 use Rattle.deck.specs.Loaded.{placed, stored}
 use Rattle.deck.specs.Law.{Elsewhere, Unwritten, LastWins, LinesFollow}
 
-placed-long : (xs : List ℕ) (o : Option (ℕ × ℕ)) → length (placed xs o) ≡ length xs
-placed-long xs None = refl
-placed-long xs (Some w) = length-set xs w.0 w.1
+placed_long : (xs : List ℕ) (o : Option (ℕ × ℕ)) → length (placed xs o) ≡ length xs
+placed_long xs None = refl
+placed_long xs (Some w) = length-set xs w.0 w.1
 
-placed-kept : (xs : List ℕ) (o : Option (ℕ × ℕ)) (at : ℕ) → Elsewhere at o → get_or (placed xs o) at 0 ≡ get_or xs at 0
-placed-kept xs None at h = refl
-placed-kept xs (Some w) at h = let apart : at ≢ w.0 = λ e. h (sym e) in get_or-set_other xs w.0 at w.1 0 apart
+placed_kept : (xs : List ℕ) (o : Option (ℕ × ℕ)) (at : ℕ) → Elsewhere at o → get_or (placed xs o) at 0 ≡ get_or xs at 0
+placed_kept xs None at h = refl
+placed_kept xs (Some w) at h = let apart : at ≢ w.0 = λ e. h (sym e) in get_or-set_other xs w.0 at w.1 0 apart
 
 module _ (write : Deed → Option (ℕ × ℕ)) where
-  stored-long : (xs : List ℕ) (ds : List Deed) → length (stored write xs ds) ≡ length xs
-  stored-long xs [] = refl
-  stored-long xs (d ∷ ds) = stored-long (placed xs (write d)) ds ∙ placed-long xs (write d)
+  stored_long : (xs : List ℕ) (ds : List Deed) → length (stored write xs ds) ≡ length xs
+  stored_long xs [] = refl
+  stored_long xs (d ∷ ds) = stored_long (placed xs (write d)) ds ∙ placed_long xs (write d)
 
-  stored-kept : (xs : List ℕ) (ds : List Deed) (at : ℕ) → Unwritten write at ds → get_or (stored write xs ds) at 0 ≡ get_or xs at 0
-  stored-kept xs [] at h = refl
-  stored-kept xs (d ∷ ds) at h = stored-kept (placed xs (write d)) ds at h.1 ∙ placed-kept xs (write d) at h.0
+  stored_kept : (xs : List ℕ) (ds : List Deed) (at : ℕ) → Unwritten write at ds → get_or (stored write xs ds) at 0 ≡ get_or xs at 0
+  stored_kept xs [] at h = refl
+  stored_kept xs (d ∷ ds) at h = stored_kept (placed xs (write d)) ds at h.1 ∙ placed_kept xs (write d) at h.0
 
   stored_last : (xs : List ℕ) (before after : List Deed) (d : Deed) (at x : ℕ) → write d ≡ Some (at, x) → Unwritten write at after → at < length xs →
       get_or (stored write xs (before ++ (d ∷ after))) at 0 ≡ x
   stored_last xs [] after d at x e h lt =
-      stored-kept (placed xs (write d)) after at h
+      stored_kept (placed xs (write d)) after at h
       ∙ (ap (λ (o : Option (ℕ × ℕ)). get_or (placed xs o) at 0) e ∙ get_or-set_same xs at x 0 lt)
   stored_last xs (b ∷ before) after d at x e h lt =
-      stored_last (placed xs (write b)) before after d at x e h (subst (λ (n : ℕ). at < n) (sym (placed-long xs (write b))) lt)
+      stored_last (placed xs (write b)) before after d at x e h (subst (λ (n : ℕ). at < n) (sym (placed_long xs (write b))) lt)
 
   pub last_wins : LastWins write
-  last_wins = record { last = stored_last; kept = stored-kept; long = stored-long }
+  last_wins = record { last = stored_last; kept = stored_kept; long = stored_long }
 
 pub lines_follow : LinesFollow
 lines_follow [] es = refl

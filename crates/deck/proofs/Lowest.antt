@@ -7,9 +7,9 @@ use Rattle.deck.specs.Field.{parse}
 use Rattle.deck.specs.Rows.{refused_at, told_of, and_then, column, columns, field_of, within, numbers, deed_of}
 use Rattle.deck.specs.Law.{fault_of, LowestTold}
 
-told-deed : (deed : ℕ → ℕ → Deed) (r : Result (ℕ × ℕ) Told) → told_of (deed_of deed r) ≡ told_of r
-told-deed deed (Ok n) = refl
-told-deed deed (Err e) = refl
+told_deed : (deed : ℕ → ℕ → Deed) (r : Result (ℕ × ℕ) Told) → told_of (deed_of deed r) ≡ told_of r
+told_deed deed (Ok n) = refl
+told_deed deed (Err e) = refl
 
 told_limits : (row m n : ℕ) (t u : Bool) →
     told_of {A = ℕ × ℕ} (and_then (cond t (Ok m) (refused_at 11 row)) (λ x. and_then (cond u (Ok n) (refused_at 11 row)) (λ y. Ok (x, y)))) ≡ cond (t && u) nothing (refused 11 3 row)
@@ -31,20 +31,20 @@ module _ (row words : ℕ) (read : ℕ → ℕ → Result (ℕ × ℕ) Told) (a 
   told_letter : (w r l : Bool) →
       told_of (cond w (deed_of Sets (read words 4294967296)) (cond r (deed_of Presets (read 16 4294967296)) (cond l (deed_of Adds (read 4 65536)) (refused_at 9 row))))
       ≡ fault_of row (cond w (words, 4294967296) (cond r (16, 4294967296) (4, 65536))) (w || (r || l)) a b
-  told_letter true r l = told-deed Sets (read words 4294967296) ∙ is (words, 4294967296)
-  told_letter false true l = told-deed Presets (read 16 4294967296) ∙ is (16, 4294967296)
-  told_letter false false true = told-deed Adds (read 4 65536) ∙ is (4, 65536)
+  told_letter true r l = told_deed Sets (read words 4294967296) ∙ is (words, 4294967296)
+  told_letter false true l = told_deed Presets (read 16 4294967296) ∙ is (16, 4294967296)
+  told_letter false false true = told_deed Adds (read 4 65536) ∙ is (4, 65536)
   told_letter false false false = refl
 
-told-end : (row : ℕ) (limits : ℕ × ℕ) (a b : Option ℕ) (r : Result Deed Told) (end form : Bool) → told_of r ≡ fault_of row limits form a b →
+told_end : (row : ℕ) (limits : ℕ × ℕ) (a b : Option ℕ) (r : Result Deed Told) (end form : Bool) → told_of r ≡ fault_of row limits form a b →
     told_of (cond end r (refused_at 9 row)) ≡ fault_of row limits (end && form) a b
-told-end row limits a b r true form h = h
-told-end row limits a b r false form h = refl
+told_end row limits a b r true form h = h
+told_end row limits a b r false form h = refl
 
 pub lowest_told : LowestTold
 lowest_told bs words row =
     let a = parse (columns bs row 1 8) in
     let b = parse (columns bs row 9 10) in
     let c = column bs row 0 in
-    told-end row _ a b _ (eqb (column bs row 19) 10) _
+    told_end row _ a b _ (eqb (column bs row 19) 10) _
     (told_letter row words (numbers bs row) a b (λ limits. told_fields row limits a b) (eqb c 87) (eqb c 82) (eqb c 76))

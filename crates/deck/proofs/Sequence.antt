@@ -36,13 +36,13 @@ at_test : {A : Type 0} (t : Bool) (x : A) (k n : ℕ) → AtRow k (cond t (Ok x)
 at_test true x k n = tt
 at_test false x k n = refl
 
-at-then : {A B : Type 0} (k : ℕ) (r : Result A Told) (f : A → Result B Told) → AtRow k r → ((x : A) → AtRow k (f x)) → AtRow k (and_then r f)
-at-then k (Ok x) f h g = g x
-at-then k (Err e) f h g = h
+at_then : {A B : Type 0} (k : ℕ) (r : Result A Told) (f : A → Result B Told) → AtRow k r → ((x : A) → AtRow k (f x)) → AtRow k (and_then r f)
+at_then k (Ok x) f h g = g x
+at_then k (Err e) f h g = h
 
-at-cond : {A : Type 0} (k : ℕ) (t : Bool) (x y : Result A Told) → AtRow k x → AtRow k y → AtRow k (cond t x y)
-at-cond k true x y h g = h
-at-cond k false x y h g = g
+at_cond : {A : Type 0} (k : ℕ) (t : Bool) (x y : Result A Told) → AtRow k x → AtRow k y → AtRow k (cond t x y)
+at_cond k true x y h g = h
+at_cond k false x y h g = g
 
 -- a field read in a row is refused there, and so is its bound
 at_field : {A : Type 0} (k : ℕ) (o : Option ℕ) (f : Field → Result A Told) → ((n : ℕ) → AtRow k (f (record { row = k; number = n }))) → AtRow k (and_then (field_of k o) f)
@@ -50,19 +50,19 @@ at_field k None f h = refl
 at_field k (Some n) f h = h n
 
 module _ (bs : List ℕ) (w : ℕ) where
-  at-numbers : (k p q : ℕ) → AtRow k (numbers bs k p q)
-  at-numbers k p q =
+  at_numbers : (k p q : ℕ) → AtRow k (numbers bs k p q)
+  at_numbers k p q =
       at_field k (parse (columns bs k 1 8)) _
-      (λ a. at_field k (parse (columns bs k 9 10)) _ (λ b. at-then k _ _ (at_test (ltb a p) a k 11) (λ x. at-then k _ _ (at_test (ltb b q) b k 11) (λ y. tt))))
+      (λ a. at_field k (parse (columns bs k 9 10)) _ (λ b. at_then k _ _ (at_test (ltb a p) a k 11) (λ x. at_then k _ _ (at_test (ltb b q) b k 11) (λ y. tt))))
 
-  at-deed : (deed : ℕ → ℕ → Deed) (k p q : ℕ) → AtRow k (deed_of deed (numbers bs k p q))
-  at-deed deed k p q = at-then k (numbers bs k p q) _ (at-numbers k p q) (λ x. tt)
+  at_deed : (deed : ℕ → ℕ → Deed) (k p q : ℕ) → AtRow k (deed_of deed (numbers bs k p q))
+  at_deed deed k p q = at_then k (numbers bs k p q) _ (at_numbers k p q) (λ x. tt)
 
-  at-says : (k : ℕ) → AtRow k (row_says bs w k)
-  at-says k =
+  at_says : (k : ℕ) → AtRow k (row_says bs w k)
+  at_says k =
       let c = column bs k 0 in
-      at-cond k (eqb (column bs k 19) 10) _ _
-      (at-cond k (eqb c 87) _ _ (at-deed _ k w 4294967296) (at-cond k (eqb c 82) _ _ (at-deed _ k 16 4294967296) (at-cond k (eqb c 76) _ _ (at-deed _ k 4 65536) refl)))
+      at_cond k (eqb (column bs k 19) 10) _ _
+      (at_cond k (eqb c 87) _ _ (at_deed _ k w 4294967296) (at_cond k (eqb c 82) _ _ (at_deed _ k 16 4294967296) (at_cond k (eqb c 76) _ _ (at_deed _ k 4 65536) refl)))
       refl
 
   ordered : (m n : ℕ) (ds : List Deed) → first_deeds bs w m n ≡ Ok ds → (length ds ≡ n) × ((k : ℕ) (other : Deed) → k < n → row_says bs w k ≡ Ok (get_or ds k other))
@@ -88,7 +88,7 @@ module _ (bs : List ℕ) (w : ℕ) where
   ToldFirst m n e = (e.place < n) × (is_ok (first_deeds bs w m e.place) ≡ true) × (first_deeds bs w m (e.place + 1) ≡ Err e)
 
   at_once : (m n : ℕ) (s : Result Deed Told) (es : List Deed) (e : Told) → AtRow n s → and_then s (λ d. with_deed m n es d) ≡ Err e → e.place ≡ n
-  at_once m n s es e h g = subst (λ (r : Result (List Deed) Told). AtRow n r) g (at-then n s _ h (λ d. at_test (leb (length (all_lines (es ++ (d ∷ [])))) (min m 65535)) _ n 12))
+  at_once m n s es e h g = subst (λ (r : Result (List Deed) Told). AtRow n r) g (at_then n s _ h (λ d. at_test (leb (length (all_lines (es ++ (d ∷ [])))) (min m 65535)) _ n 12))
 
   first : (m n : ℕ) (r : Result (List Deed) Told) (e : Told) → first_deeds bs w m n ≡ r → and_then r (λ es. and_then (row_says bs w n) (λ d. with_deed m n es d)) ≡ Err e →
       ((e' : Told) → r ≡ Err e' → ToldFirst m n e') → ToldFirst m (suc n) e
@@ -96,7 +96,7 @@ module _ (bs : List ℕ) (w : ℕ) where
       let found = before e' refl in
       subst (ToldFirst m (suc n)) (err_same e' e h) (omega (arith, found.0), found.1, found.2)
   first m n (Ok es) e is h before =
-      let here = at_once m n (row_says bs w n) es e (at-says n) h in
+      let here = at_once m n (row_says bs w n) es e (at_says n) h in
       let step : Result (List Deed) Told → Result (List Deed) Told = λ r. and_then r (λ fs. and_then (row_says bs w n) (λ d. with_deed m n fs d)) in (
         omega (arith, here),
         ap (λ (k : ℕ). is_ok (first_deeds bs w m k)) here ∙ ap (λ (r : Result (List Deed) Told). is_ok r) is,

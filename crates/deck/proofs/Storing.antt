@@ -9,7 +9,7 @@ use Rattle.deck.specs.declared.rows.Deed.{Deed}
 use Rattle.deck.specs.Rows.{refused_at, and_then, row_says}
 use Rattle.deck.specs.Decks.{lines_of, all_lines, with_deed, room_for, first_deeds, counted}
 use Rattle.deck.specs.Loaded.{word_of, register_of, placed, stored, words_after, registers_after, lines_after}
-use Rattle.deck.proofs.Counting.{ok_same, ok_err, lines_more, count-more, tested, at_row, at_room}
+use Rattle.deck.proofs.Counting.{ok_same, ok_err, lines_more, count_more, tested, at_row, at_room}
 
 -- lines a, then lines b, over a buffer
 overlay : (a b ls : List ℕ) → (a ++ b) ++ drop (length (a ++ b)) ls ≡ paste (a ++ drop (length a) ls) (length a) b (length b)
@@ -34,7 +34,7 @@ grown : (r : Result (List Deed) Told) (m k u v : ℕ) (d : Deed) → counted r �
 grown (Err e) m k u v d h g = absurd (ok_err u e (sym h))
 grown (Ok ds) m k u v d h g =
     let same = ok_same _ u h in
-    let size : length (all_lines (ds ++ (d ∷ []))) ≡ u + length (lines_of d) = count-more ds d ∙ ap (λ (n : ℕ). n + length (lines_of d)) same in
+    let size : length (all_lines (ds ++ (d ∷ []))) ≡ u + length (lines_of d) = count_more ds d ∙ ap (λ (n : ℕ). n + length (lines_of d)) same in
     let fits = (tested (leb (u + length (lines_of d)) (min m 65535)) (u + length (lines_of d)) v _ g).0 in
     record {
       deeds = ds;
@@ -86,11 +86,11 @@ module _ (bs : List ℕ) (w m : ℕ) where
     pub words_more : (xs : List ℕ) → words_after (first_deeds bs w m (k + 1)) xs ≡ placed (words_after (first_deeds bs w m k) xs) (word_of d)
     words_more xs = stored_more words_after word_of xs (λ ds. refl)
 
-    pub registers-more : (xs : List ℕ) → registers_after (first_deeds bs w m (k + 1)) xs ≡ placed (registers_after (first_deeds bs w m k) xs) (register_of d)
-    registers-more xs = stored_more registers_after register_of xs (λ ds. refl)
+    pub registers_more : (xs : List ℕ) → registers_after (first_deeds bs w m (k + 1)) xs ≡ placed (registers_after (first_deeds bs w m k) xs) (register_of d)
+    registers_more xs = stored_more registers_after register_of xs (λ ds. refl)
 
-    pub lines-written : (xs : List ℕ) → lines_after (first_deeds bs w m (k + 1)) xs ≡ paste (lines_after (first_deeds bs w m k) xs) u (lines_of d) (length (lines_of d))
-    lines-written xs =
+    pub lines_written : (xs : List ℕ) → lines_after (first_deeds bs w m (k + 1)) xs ≡ paste (lines_after (first_deeds bs w m k) xs) u (lines_of d) (length (lines_of d))
+    lines_written xs =
         let made = next_row k u v d h g t in
         let a = all_lines made.deeds in
         let b = lines_of d in

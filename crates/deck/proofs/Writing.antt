@@ -4,7 +4,7 @@ use native.Mathlib.Nat.{pow-le-pow_right}
 use Rattle.std.proofs.lemmas.List.Sums.{fold_push}
 use Rattle.std.proofs.lemmas.Bool.Decides.{nat_tests, leb_tells, eqb_tells}
 use Rattle.std.proofs.lemmas.Fmt.{decimal_by_steps, decimal_step, decimal_digit}
-use Rattle.deck.proofs.Scans.{small-more}
+use Rattle.deck.proofs.Scans.{small_more}
 use Rattle.deck.specs.declared.field.Seen.{Seen}
 use Rattle.deck.specs.declared.field.Seen.TheVariants.{Blanks, Zero, Number, Wrong}
 use Rattle.deck.specs.Field.{digit, after, said, parse, Written, ReadsAsWritten, Small}
@@ -92,11 +92,11 @@ first_blank c e = grind (arith, nat_tests)
 first_zero : (c : ℕ) → c ≡ 48 → after Blanks c ≡ Zero
 first_zero c e = grind (arith, nat_tests)
 
-first-digit : (c : ℕ) → 48 < c → c ≤ 57 → after Blanks c ≡ Number (c - 48)
-first-digit c lo hi = grind (arith, nat_tests)
+first_digit : (c : ℕ) → 48 < c → c ≤ 57 → after Blanks c ≡ Number (c - 48)
+first_digit c lo hi = grind (arith, nat_tests)
 
-first-wrong : (c : ℕ) → (c ≡ 32 → ⊥) → (48 ≤ c → c ≤ 57 → ⊥) → after Blanks c ≡ Wrong
-first-wrong c a b = grind (arith, nat_tests)
+first_wrong : (c : ℕ) → (c ≡ 32 → ⊥) → (48 ≤ c → c ≤ 57 → ⊥) → after Blanks c ≡ Wrong
+first_wrong c a b = grind (arith, nat_tests)
 
 from : (c : ℕ) (cs : List ℕ) (n : ℕ) (s : Seen) → after Blanks c ≡ s → parse (c ∷ cs) ≡ Some n → said (fold after s cs) ≡ Some n
 from c cs n s e h = sym (ap (λ (t : Seen). said (fold after t cs)) e) ∙ h
@@ -116,11 +116,11 @@ says (c ∷ cs) n lt h =
                     ap (λ (x : ℕ). x ∷ cs) z.1 ∙ (ap (λ (l : List ℕ). 48 ∷ l) r.1 ∙ (sym (decimal_digit 0 (omega arith)) ∙ ap decimal (sym r.0)))
                 | inr z ↦
                     let lo : 48 < c = omega (arith, d.0, z.1) in
-                    let r = goes_on cs (c - 48) n (omega arith) lt (from c cs n (Number (c - 48)) (first-digit c lo d.1) h) in
+                    let r = goes_on cs (c - 48) n (omega arith) lt (from c cs n (Number (c - 48)) (first_digit c lo d.1) h) in
                     let e : 48 + (c - 48) ≡ c = omega arith in
                     ap (λ (x : ℕ). x ∷ cs) (sym e) ∙ (ap (λ (l : List ℕ). l ++ cs) (sym (decimal_digit (c - 48) (omega (arith, d.1)))) ∙ r.1)
               ]
-          | inr out ↦ absurd (not_wrong cs n (from c cs n Wrong (first-wrong c b.1 out) h))
+          | inr out ↦ absurd (not_wrong cs n (from c cs n Wrong (first_wrong c b.1 out) h))
         ]),
       )
     ]
@@ -133,18 +133,18 @@ scan_from : (bs : List ℕ) (s : Seen) (i : ℕ) → Small s (10 ^ i) → Small 
 scan_from [] s i h = rw add-zero h
 scan_from (b ∷ bs) s i h =
     let same : (i + 1) + length bs ≡ i + suc (length bs) = omega arith in
-    rw same at (scan_from bs (after s b) (i + 1) (small-more s b i h))
+    rw same at (scan_from bs (after s b) (i + 1) (small_more s b i h))
 
-small-said : (s : Seen) (m n : ℕ) → Small s m → said s ≡ Some n → n < m + 1
-small-said Blanks m n h e = absurd (none_some n e)
-small-said Wrong m n h e = absurd (none_some n e)
-small-said Zero m n h e = omega (arith, some_same 0 n e)
-small-said (Number k) m n h e = omega (arith, some_same k n e)
+small_said : (s : Seen) (m n : ℕ) → Small s m → said s ≡ Some n → n < m + 1
+small_said Blanks m n h e = absurd (none_some n e)
+small_said Wrong m n h e = absurd (none_some n e)
+small_said Zero m n h e = omega (arith, some_same 0 n e)
+small_said (Number k) m n h e = omega (arith, some_same k n e)
 
 bounded : (bs : List ℕ) (n : ℕ) → length bs ≤ 10 → parse bs ≡ Some n → n < 2 ^ 64
 bounded bs n le e =
     let far : 0 + length bs ≤ 10 = omega arith in
-    omega (arith, small-said (fold after Blanks bs) (10 ^ (0 + length bs)) n (scan_from bs Blanks 0 tt) e, pow-le-pow_right {n = 10} (omega arith) {i = 0 + length bs} {j = 10} far)
+    omega (arith, small_said (fold after Blanks bs) (10 ^ (0 + length bs)) n (scan_from bs Blanks 0 tt) e, pow-le-pow_right {n = 10} (omega arith) {i = 0 + length bs} {j = 10} far)
 
 reads : (bs : List ℕ) (n : ℕ) → length bs ≤ 10 → parse bs ≡ Some n → Written bs n
 reads bs n le e = says bs n (bounded bs n le e) e

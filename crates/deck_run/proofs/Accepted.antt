@@ -15,8 +15,8 @@ use Rattle.deck.proofs.Counting.{lines_more}
 abbrev Low : List ℕ → Type 0
 Low ls = first_over ls ≡ length ls
 
-low-more : (x : ℕ) (xs : List ℕ) → leb x 3 ≡ true → Low xs → Low (x ∷ xs)
-low-more x xs t h = cond-true _ _ _ t ∙ omega (arith, h)
+low_more : (x : ℕ) (xs : List ℕ) → leb x 3 ≡ true → Low xs → Low (x ∷ xs)
+low_more x xs t h = cond-true _ _ _ t ∙ omega (arith, h)
 
 low_first : (x : ℕ) (xs : List ℕ) → (t : Bool) → leb x 3 ≡ t → Low (x ∷ xs) → (leb x 3 ≡ true) × Low xs
 low_first x xs true e h = (e, omega (arith, sym (cond-true (leb x 3) (1 + first_over xs) 0 e) ∙ h))
@@ -24,11 +24,11 @@ low_first x xs false e h = let z : 0 ≡ suc (length xs) = sym (cond-false (leb 
 
 low-append : (xs ys : List ℕ) → Low xs → Low ys → Low (xs ++ ys)
 low-append [] ys h g = g
-low-append (x ∷ xs) ys h g = let f = low_first x xs (leb x 3) refl h in low-more x (xs ++ ys) f.0 (low-append xs ys f.1 g)
+low-append (x ∷ xs) ys h g = let f = low_first x xs (leb x 3) refl h in low_more x (xs ++ ys) f.0 (low-append xs ys f.1 g)
 
 low-replicate : (n x : ℕ) → x < 4 → Low (replicate n x)
 low-replicate zero x lt = refl
-low-replicate (suc n) x lt = low-more x (replicate n x) (grind (arith, nat_tests)) (low-replicate n x lt)
+low-replicate (suc n) x lt = low_more x (replicate n x) (grind (arith, nat_tests)) (low-replicate n x lt)
 
 -- ---- a row that says so
 
@@ -65,17 +65,17 @@ if_numbers bs row p q =
     if_then _ (first_field bs row) _ (λ a. if_then _ (second_field bs row) _ (λ b.
     if_both (λ (n : ℕ). n < p) _ (within p a) _ (if_within p a) (λ x lt. if_then _ (within q b) _ (λ y. lt))))
 
-low-deed : (deed : ℕ → ℕ → Deed) (r : Result (ℕ × ℕ) Told) (P : ℕ × ℕ → Type 0) → If P r → ((n : ℕ × ℕ) → P n → Low (lines_of (deed n.0 n.1))) → LowBy (deed_of deed r)
-low-deed deed (Ok n) P h g = g n h
-low-deed deed (Err e) P h g = tt
+low_deed : (deed : ℕ → ℕ → Deed) (r : Result (ℕ × ℕ) Told) (P : ℕ × ℕ → Type 0) → If P r → ((n : ℕ × ℕ) → P n → Low (lines_of (deed n.0 n.1))) → LowBy (deed_of deed r)
+low_deed deed (Ok n) P h g = g n h
+low_deed deed (Err e) P h g = tt
 
 low_row : (bs : List ℕ) (words row : ℕ) → LowBy (row_says bs words row)
 low_row bs words row =
     let c = column bs row 0 in
     low-cond (eqb (column bs row 19) 10) _ _
-    (low-cond (eqb c 87) _ _ (low-deed _ (numbers bs row words 4294967296) _ (if_numbers bs row words 4294967296) (λ n h. refl))
-    (low-cond (eqb c 82) _ _ (low-deed _ (numbers bs row 16 4294967296) _ (if_numbers bs row 16 4294967296) (λ n h. refl))
-    (low-cond (eqb c 76) _ _ (low-deed Adds (numbers bs row 4 65536) _ (if_numbers bs row 4 65536) (λ n h. low-replicate n.1 n.0 h))
+    (low-cond (eqb c 87) _ _ (low_deed _ (numbers bs row words 4294967296) _ (if_numbers bs row words 4294967296) (λ n h. refl))
+    (low-cond (eqb c 82) _ _ (low_deed _ (numbers bs row 16 4294967296) _ (if_numbers bs row 16 4294967296) (λ n h. refl))
+    (low-cond (eqb c 76) _ _ (low_deed Adds (numbers bs row 4 65536) _ (if_numbers bs row 4 65536) (λ n h. low-replicate n.1 n.0 h))
     tt)))
     tt
 
@@ -95,23 +95,23 @@ fine_more m k (Ok ds) (Ok d) h g =
     fine_test (leb (length (all_lines (ds ++ (d ∷ [])))) (min m 65535)) (ds ++ (d ∷ [])) m _ refl
     (subst Low (sym (lines_more ds d)) (low-append (all_lines ds) (lines_of d) h.0 g))
 
-fine-first : (bs : List ℕ) (words room n : ℕ) → If Fine (first_deeds bs words room n)
-fine-first bs words room zero = (refl, omega arith)
-fine-first bs words room (suc n) = fine_more room n (first_deeds bs words room n) (row_says bs words n) (fine-first bs words room n) (low_row bs words n)
+fine_first : (bs : List ℕ) (words room n : ℕ) → If Fine (first_deeds bs words room n)
+fine_first bs words room zero = (refl, omega arith)
+fine_first bs words room (suc n) = fine_more room n (first_deeds bs words room n) (row_says bs words n) (fine_first bs words room n) (low_row bs words n)
 
 fine_deck : (t : Bool) (r : Result (List Deed) Told) (e : Told) → If Fine r → If Fine (cond t r (Err e))
 fine_deck true r e h = h
 fine_deck false r e h = tt
 
 fine : (bs : List ℕ) (words room : ℕ) (ds : List Deed) → deck_says bs words room ≡ Ok ds → Fine ds
-fine bs words room ds e = subst (If Fine) e (fine_deck (whole bs) _ _ (fine-first bs words room (row_count bs)))
+fine bs words room ds e = subst (If Fine) e (fine_deck (whole bs) _ _ (fine_first bs words room (row_count bs)))
 
-fine-lines : (ls : List ℕ) → Low ls → length ls ≤ 65535 → lines_refused ls ≡ None
+fine_lines : (ls : List ℕ) → Low ls → length ls ≤ 65535 → lines_refused ls ≡ None
 unfolding lines_refused
-fine-lines ls h le =
+fine_lines ls h le =
     let all : length ls ≤ first_over ls = omega (arith, h) in
     cond-false _ _ _ (le-ltb 65535 (length ls) le) ∙ cond-false _ _ _ (le-ltb (first_over ls) (length ls) all)
 
 pub not_refused : (bs : List ℕ) (words room : ℕ) (ds : List Deed) → deck_says bs words room ≡ Ok ds → leap_refused (all_lines ds) 0 ≡ None
 unfolding leap_refused
-not_refused bs words room ds e = let f = fine bs words room ds e in ap (or_inside 0) (fine-lines (all_lines ds) f.0 f.1)
+not_refused bs words room ds e = let f = fine bs words room ds e in ap (or_inside 0) (fine_lines (all_lines ds) f.0 f.1)

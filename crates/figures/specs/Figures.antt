@@ -26,7 +26,7 @@ words low high = record { low = low; high = high }
 pub record Figures : Type 0 where
   -- FFFFFFFFH + 1 is 0 with C, not V
   pub wraps : sum 0xFFFF_FFFF 1 false ≡ 0
-  pub wraps-carries : sum_carries 0xFFFF_FFFF 1 false ≡ true
+  pub wraps_carries : sum_carries 0xFFFF_FFFF 1 false ≡ true
   pub wraps_overflows : sum_overflows 0xFFFF_FFFF 1 false ≡ false
   -- 7FFFFFFFH + 1 has V, not C
   pub tops_carries : sum_carries 0x7FFF_FFFF 1 false ≡ false

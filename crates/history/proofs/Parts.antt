@@ -27,25 +27,25 @@ drop_min k xs =
 
 -- a list whose part from a on is replaced by as many others
 module _ {X : Type 0} (a : ℕ) (xs ys : List X) (le : a ≤ length xs) (size : length ys ≡ length (take (length xs - a) (drop a xs))) where
-  front-size : length (take a xs) ≡ a
-  front-size = length-take-le a xs le
+  front_size : length (take a xs) ≡ a
+  front_size = length-take-le a xs le
 
-  pub rest-size : length (take (length xs - a) (drop a xs)) ≡ length xs - a
-  rest-size = ap length (take_rest xs a) ∙ length-drop a xs
+  pub rest_size : length (take (length xs - a) (drop a xs)) ≡ length xs - a
+  rest_size = ap length (take_rest xs a) ∙ length-drop a xs
 
-  behind-size : length (put_mid a (length xs - a) xs ys) ≡ a + length ys
-  behind-size = same_len_mid a (length xs - a) xs ys size ∙ omega (arith, rest-size)
+  behind_size : length (put_mid a (length xs - a) xs ys) ≡ a + length ys
+  behind_size = same_len_mid a (length xs - a) xs ys size ∙ omega (arith, rest_size)
 
   pub replaced : put_mid a (length xs - a) xs ys ≡ take a xs ++ ys
   replaced =
-      let n : length (put_mid a (length xs - a) xs ys) ≤ a + length ys = omega (arith, behind-size) in
+      let n : length (put_mid a (length xs - a) xs ys) ≤ a + length ys = omega (arith, behind_size) in
       sym (take_all (a + length ys) _ n) ∙ take-put_mid a (length xs - a) xs ys (a + length ys) refl le
 
-  pub replaced-front : take a (put_mid a (length xs - a) xs ys) ≡ take a xs
-  replaced-front = ap (take a) replaced ∙ take_at (take a xs) ys a front-size
+  pub replaced_front : take a (put_mid a (length xs - a) xs ys) ≡ take a xs
+  replaced_front = ap (take a) replaced ∙ take_at (take a xs) ys a front_size
 
-  pub replaced-rest : drop a (put_mid a (length xs - a) xs ys) ≡ ys
-  replaced-rest = ap (drop a) replaced ∙ drop_at (take a xs) ys a front-size
+  pub replaced_rest : drop a (put_mid a (length xs - a) xs ys) ≡ ys
+  replaced_rest = ap (drop a) replaced ∙ drop_at (take a xs) ys a front_size
 
-  pub replaced-behind : (n : ℕ) → drop n ys ≡ drop n (take (length xs - a) (drop a xs)) → drop (a + n) (put_mid a (length xs - a) xs ys) ≡ drop (a + n) xs
-  replaced-behind n e = sym (drop-drop n a _) ∙ ap (drop n) replaced-rest ∙ e ∙ ap (drop n) (take_rest xs a) ∙ drop-drop n a xs
+  pub replaced_behind : (n : ℕ) → drop n ys ≡ drop n (take (length xs - a) (drop a xs)) → drop (a + n) (put_mid a (length xs - a) xs ys) ≡ drop (a + n) xs
+  replaced_behind n e = sym (drop-drop n a _) ∙ ap (drop n) replaced_rest ∙ e ∙ ap (drop n) (take_rest xs a) ∙ drop-drop n a xs

@@ -47,30 +47,30 @@ calls_more room ls (p ∷ qs) (y ∷ xs) rs new q x e w =
     ∙ calls_more (room - k) ls qs xs (drop k rs) new q x n v
     ∙ ap (λ (i : ℕ). calls_of (room - k) ls qs xs (drop k rs) ++ (call_of (part_of ls q) i new x ∷ [])) room-left)
 
-wrote-more : (xs : List Answer) (x : Answer) → wrote_all (xs ++ (x ∷ [])) ≡ wrote_all xs + wrote x
-wrote-more [] x = add-zero (wrote x) ∙ sym (zero-add (wrote x))
-wrote-more (y ∷ xs) x = ap (λ (n : ℕ). wrote y + n) (wrote-more xs x) ∙ sym (add_assoc (wrote y) (wrote_all xs) (wrote x))
+wrote_more : (xs : List Answer) (x : Answer) → wrote_all (xs ++ (x ∷ [])) ≡ wrote_all xs + wrote x
+wrote_more [] x = add-zero (wrote x) ∙ sym (zero-add (wrote x))
+wrote_more (y ∷ xs) x = ap (λ (n : ℕ). wrote y + n) (wrote_more xs x) ∙ sym (add_assoc (wrote y) (wrote_all xs) (wrote x))
 
-given-more : (xs : List Answer) (x : Answer) → given (xs ++ (x ∷ [])) ≡ given xs ++ (way_of x ∷ [])
-given-more [] x = refl
-given-more (y ∷ xs) x = ap {B = List Way} (λ r. way_of y ∷ r) (given-more xs x)
+given_more : (xs : List Answer) (x : Answer) → given (xs ++ (x ∷ [])) ≡ given xs ++ (way_of x ∷ [])
+given_more [] x = refl
+given_more (y ∷ xs) x = ap {B = List Way} (λ r. way_of y ∷ r) (given_more xs x)
 
-asked-more : (qs : List Request) (q : Request) → asked (qs ++ (q ∷ [])) ≡ asked qs ++ (q.way ∷ [])
-asked-more [] q = refl
-asked-more (p ∷ qs) q = ap {B = List Way} (λ r. p.way ∷ r) (asked-more qs q)
+asked_more : (qs : List Request) (q : Request) → asked (qs ++ (q ∷ [])) ≡ asked qs ++ (q.way ∷ [])
+asked_more [] q = refl
+asked_more (p ∷ qs) q = ap {B = List Way} (λ r. p.way ∷ r) (asked_more qs q)
 
 module _ (xs : List Answer) (i : ℕ) (x : Answer) (h : i < length xs) where
   pub wrote_on : (n : ℕ) → wrote_all (take i xs) ≡ n → wrote_all (take (i + 1) (set xs i x)) ≡ n + wrote x
-  wrote_on n e = ap wrote_all (take_more_set xs i x h) ∙ wrote-more (take i xs) x ∙ ap (λ (k : ℕ). k + wrote x) e
+  wrote_on n e = ap wrote_all (take_more_set xs i x h) ∙ wrote_more (take i xs) x ∙ ap (λ (k : ℕ). k + wrote x) e
 
-  pub given-on : (qs : List Request) (q : Request) → take (i + 1) qs ≡ take i qs ++ (q ∷ []) → given (take i xs) ≡ asked (take i qs) → way_of x ≡ q.way
+  pub given_on : (qs : List Request) (q : Request) → take (i + 1) qs ≡ take i qs ++ (q ∷ []) → given (take i xs) ≡ asked (take i qs) → way_of x ≡ q.way
       → given (take (i + 1) (set xs i x)) ≡ asked (take (i + 1) qs)
-  given-on qs q p e w =
-      ap given (take_more_set xs i x h) ∙ given-more (take i xs) x ∙ ap₂ (λ (r : List Way) (y : Way). r ++ (y ∷ [])) e w ∙ sym (ap asked p ∙ asked-more (take i qs) q)
+  given_on qs q p e w =
+      ap given (take_more_set xs i x h) ∙ given_more (take i xs) x ∙ ap₂ (λ (r : List Way) (y : Way). r ++ (y ∷ [])) e w ∙ sym (ap asked p ∙ asked_more (take i qs) q)
 
   -- the answers that are not written yet
-  pub left-on : (ys : List Answer) → drop i xs ≡ drop i ys → drop (i + 1) (set xs i x) ≡ drop (i + 1) ys
-  left-on ys e = let lt : i < i + 1 = omega arith in drop-set-lt (i + 1) xs i x lt ∙ sym (drop-drop 1 i xs) ∙ ap (drop 1) e ∙ drop-drop 1 i ys
+  pub left_on : (ys : List Answer) → drop i xs ≡ drop i ys → drop (i + 1) (set xs i x) ≡ drop (i + 1) ys
+  left_on ys e = let lt : i < i + 1 = omega arith in drop-set-lt (i + 1) xs i x lt ∙ sym (drop-drop 1 i xs) ∙ ap (drop 1) e ∙ drop-drop 1 i ys
 
   pub calls_on : (room : ℕ) (ls : List ℕ) (qs : List Request) (q : Request) (k : ℕ) (t u : List Record)
       → take (i + 1) qs ≡ take i qs ++ (q ∷ []) → i ≤ length qs → wrote_all (take i xs) ≡ k → take k u ≡ take k t → k ≤ length t → length u ≡ length t

@@ -12,9 +12,9 @@ use Rattle.machine.specs.Instructions.{ready_at, ready, before, instruction}
 use Rattle.machine.specs.Laws.{ARiseOnAcknowledgingIsLost, AStalledLineIsNoStep, AStoreLandsBeforeTheFetch}
 use Rattle.machine.proofs.Waits.{Way, stands, waiting, ending, way, clock-held}
 
-finish-lost : (M : Meaning) (I : Isa) (f : Context) (r : Registers) (l : ℕ) (h : List ℕ) → acks f ≡ true → (finish M I f r l h).ticks.pending ≡ false
+finish_lost : (M : Meaning) (I : Isa) (f : Context) (r : Registers) (l : ℕ) (h : List ℕ) → acks f ≡ true → (finish M I f r l h).ticks.pending ≡ false
 unfolding finish_at
-finish-lost M I f r l h e = ap (λ (v : Bool). (cond v (cleared l) (noted l f.ticks)).pending) e
+finish_lost M I f r l h e = ap (λ (v : Bool). (cond v (cleared l) (noted l f.ticks)).pending) e
 
 module _ (M : Meaning) (I : Isa) (T : Pace) (l : ℕ) (s : State) where
   lost : Way M I T l s → ends M I T l s ≡ true → acks s.core.context ≡ true → (clock M I T l s).core.context.ticks.pending ≡ false
@@ -26,10 +26,10 @@ module _ (M : Meaning) (I : Isa) (T : Pace) (l : ℕ) (s : State) where
       let z : false ≡ true = sym (ap₂ (λ (u v : Bool). not u && not v) p q) ∙ e in
       let n : ◌≡◌ {A = ℕ} 0 1 = cc in
       absurd (omega arith)
-  lost (ending p q c) e k = ap (λ (x : State). x.core.context.ticks.pending) c ∙ finish-lost M I _ _ l _ k
+  lost (ending p q c) e k = ap (λ (x : State). x.core.context.ticks.pending) c ∙ finish_lost M I _ _ l _ k
 
-pub rise-lost : (M : Meaning) (I : Isa) (T : Pace) → ARiseOnAcknowledgingIsLost M I T
-rise-lost M I T l s e k = lost M I T l s (way M I T l s) e k
+pub rise_lost : (M : Meaning) (I : Isa) (T : Pace) → ARiseOnAcknowledgingIsLost M I T
+rise_lost M I T l s e k = lost M I T l s (way M I T l s) e k
 
 pub no_step : (M : Meaning) (I : Isa) (T : Pace) → AStalledLineIsNoStep M I T
 no_step M I T l s e =
@@ -40,9 +40,9 @@ fetched_from : (M : Meaning) (I : Isa) (f : Context) (r : Registers) (l : ℕ) (
 unfolding finish_at
 fetched_from M I f r l h = refl
 
-pub store-first : (M : Meaning) (I : Isa) → AStoreLandsBeforeTheFetch M I
+pub store_first : (M : Meaning) (I : Isa) → AStoreLandsBeforeTheFetch M I
 unfolding instruction ready_at
-store-first M I b l s e =
+store_first M I b l s e =
     let w : ℕ = s.context.fetched.ir in
     let r : Registers = s.context.registers in
     let f : Context = before M I b s in

@@ -23,17 +23,17 @@ settled_live : (s : State) → Settled s → s.core.waiting.step ≡ 0 → live 
 settled_live s p z = ap (λ (w : Waiting). record { core = record { context = s.core.context; waiting = w }; contents = s.contents }) (sym (p z))
 
 -- a leap that is not refused is at step 0
-inside-none : (i : ℕ) (o : Option Refusal) → or_inside i o ≡ None → i ≡ 0
-inside-none i None e = by (eqb i 0) refl e
+inside_none : (i : ℕ) (o : Option Refusal) → or_inside i o ≡ None → i ≡ 0
+inside_none i None e = by (eqb i 0) refl e
   where
     by : (v : Bool) → eqb i 0 ≡ v → cond v None (Some InsideInstruction) ≡ None → i ≡ 0
     by true q e = grind (arith, ways.nat_tests)
     by false q e = let z : ◌≡◌ {A = ℕ} 0 1 = cc in absurd (omega arith)
-inside-none i (Some r) e = let z : ◌≡◌ {A = ℕ} 0 1 = cc in absurd (omega arith)
+inside_none i (Some r) e = let z : ◌≡◌ {A = ℕ} 0 1 = cc in absurd (omega arith)
 
 leap_none : (ls : List ℕ) (i : ℕ) → leap_refused ls i ≡ None → i ≡ 0
 unfolding leap_refused
-leap_none ls i e = inside-none i (lines_refused ls) e
+leap_none ls i e = inside_none i (lines_refused ls) e
 
 module _ (M : Meaning) (I : Isa) (T : Pace) where
   settled_clock : (l : ℕ) (s : State) → Way M I T l s → Settled s → Settled (clock M I T l s)

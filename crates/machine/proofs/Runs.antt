@@ -20,9 +20,9 @@ pub data Ran (M : Meaning) (I : Isa) (T : Pace) : Boundary → List ℕ → List
   next : {s e : Boundary} {b u : List ℕ} {l : ℕ} {rs : List Record} → Whole (pred (owed M I T s.context.fetched.ir s.context.registers)) b l
       → Ran M I T (instruction M I b l s) u rs e → Ran M I T s ((b ++ (l ∷ [])) ++ u) (recorded M I T b s ∷ rs) e
 
-take-front : (u v : List ℕ) → take (length u) (u ++ v) ≡ u
-take-front [] v = refl
-take-front (x ∷ u) v = ap {B = List ℕ} (λ r. x ∷ r) (take-front u v)
+take_front : (u v : List ℕ) → take (length u) (u ++ v) ≡ u
+take_front [] v = refl
+take_front (x ∷ u) v = ap {B = List ℕ} (λ r. x ∷ r) (take_front u v)
 
 pub stalls-append : (a b : List ℕ) → stalls (a ++ b) ≡ stalls a + stalls b
 unfolding stalls
@@ -122,7 +122,7 @@ module _ (M : Meaning) (I : Isa) (T : Pace) where
         length-append (b ++ (l ∷ [])) u ∙ omega (arith, (share-length v).1, ran-length r, owed_pred M I T L s.context.fetched.ir s.context.registers)
 
 pub taken : (M : Meaning) (I : Isa) (T : Pace) (s : Boundary) (ls : List ℕ) (r : Run) (k : Runs M I T s ls r) → take r.used ls ≡ k.over
-taken M I T s ls r k = ap₂ (λ (n : ℕ) (xs : List ℕ). take n xs) (sym k.count) k.split ∙ take-front k.over r.left
+taken M I T s ls r k = ap₂ (λ (n : ℕ) (xs : List ℕ). take n xs) (sym k.count) k.split ∙ take_front k.over r.left
 
 -- The clock rules over the lines that a run of the instruction machine used give that run's end.
 pub leaps-run : (M : Meaning) (I : Isa) (T : Pace) → Lawful I T → (room : ℕ) (s : Boundary) (ls : List ℕ)
@@ -132,31 +132,31 @@ leaps-run M I T L room s ls =
     ap (λ (u : List ℕ). run M I T u (live s)) (taken M I T s ls _ k) ∙ ran-run M I T L k.ran
 
 module _ (M : Meaning) (I : Isa) (T : Pace) where
-  stops-by : (go : Boundary → List ℕ → Run) (s : Boundary) (ls : List ℕ) (c : Cut) → Good (pred (owed M I T s.context.fetched.ir s.context.registers)) ls c → share M I T s ls ≡ c
+  stops_by : (go : Boundary → List ℕ → Run) (s : Boundary) (ls : List ℕ) (c : Cut) → Good (pred (owed M I T s.context.fetched.ir s.context.registers)) ls c → share M I T s ls ≡ c
       → ((i : Boundary) (is : List ℕ) → length is < length ls → share M I T (go i is).state (go i is).left ≡ short)
       → share M I T (onward M I T go s ls c).state (onward M I T go s ls c).left ≡ short
-  stops-by go s ls short g e f = e
-  stops-by go s ls (whole b l left) g e f =
+  stops_by go s ls short g e f = e
+  stops_by go s ls (whole b l left) g e f =
       f (instruction M I b l s) left (omega (arith, ap length g.1, length-append b (l ∷ left)))
 
-  stops-room : (room : ℕ) (s : Boundary) (ls : List ℕ) → length ls ≤ room → share M I T (leaps M I T room s ls).state (leaps M I T room s ls).left ≡ short
+  stops_room : (room : ℕ) (s : Boundary) (ls : List ℕ) → length ls ≤ room → share M I T (leaps M I T room s ls).state (leaps M I T room s ls).left ≡ short
   unfolding leaps cut_after
-  stops-room zero s [] h = refl
-  stops-room zero s (x ∷ ls) h = absurd (not-suc-le-zero h)
-  stops-room (suc room) s ls h =
-      stops-by (leaps M I T room) s ls (share M I T s ls) (cut_good (pred (owed M I T s.context.fetched.ir s.context.registers)) ls) refl (λ i is q. stops-room room i is (omega arith))
+  stops_room zero s [] h = refl
+  stops_room zero s (x ∷ ls) h = absurd (not-suc-le-zero h)
+  stops_room (suc room) s ls h =
+      stops_by (leaps M I T room) s ls (share M I T s ls) (cut_good (pred (owed M I T s.context.fetched.ir s.context.registers)) ls) refl (λ i is q. stops_room room i is (omega arith))
 
 pub stops : (M : Meaning) (I : Isa) (T : Pace) → StopsWithoutAShare M I T
-stops M I T s ls = stops-room M I T (length ls) s ls (omega arith)
+stops M I T s ls = stops_room M I T (length ls) s ls (omega arith)
 
 -- the two steps of a leap's loop
 module _ (M : Meaning) (I : Isa) (T : Pace) where
-  pub leaps-next : (room : ℕ) (s : Boundary) (ls b : List ℕ) (l : ℕ) (left : List ℕ) → share M I T s ls ≡ whole b l left
+  pub leaps_next : (room : ℕ) (s : Boundary) (ls b : List ℕ) (l : ℕ) (left : List ℕ) → share M I T s ls ≡ whole b l left
       → leaps M I T (suc room) s ls ≡ then (recorded M I T b s) b (leaps M I T room (instruction M I b l s) left)
   unfolding leaps
-  leaps-next room s ls b l left e = ap (onward M I T (leaps M I T room) s ls) e
+  leaps_next room s ls b l left e = ap (onward M I T (leaps M I T room) s ls) e
 
-  pub leaps-end : (room : ℕ) (s : Boundary) (ls : List ℕ) → share M I T s ls ≡ short → leaps M I T room s ls ≡ stop s ls
+  pub leaps_end : (room : ℕ) (s : Boundary) (ls : List ℕ) → share M I T s ls ≡ short → leaps M I T room s ls ≡ stop s ls
   unfolding leaps
-  leaps-end zero s ls e = refl
-  leaps-end (suc room) s ls e = ap (onward M I T (leaps M I T room) s ls) e
+  leaps_end zero s ls e = refl
+  leaps_end (suc room) s ls e = ap (onward M I T (leaps M I T room) s ls) e

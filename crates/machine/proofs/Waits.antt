@@ -63,8 +63,8 @@ module _ (M : Meaning) (I : Isa) (T : Pace) where
       by false false e q = ending e q (clock-goes l s false e q)
 
   -- after the access, registers and contents stay
-  opened-on : (n s w : ℕ) (r : Registers) (h : List ℕ) → n ≡ suc s → opened M I n w r h ≡ record { registers = r; contents = h }
-  opened-on n s w r h e = ap (λ (i : ℕ). opened M I i w r h) e
+  opened_on : (n s w : ℕ) (r : Registers) (h : List ℕ) → n ≡ suc s → opened M I n w r h ≡ record { registers = r; contents = h }
+  opened_on n s w r h e = ap (λ (i : ℕ). opened M I i w r h) e
 
   -- the end of an instruction, from the core after its access
   abbrev done : Context → List ℕ → ℕ → Waiting → List ℕ → State
@@ -79,7 +79,7 @@ module _ (M : Meaning) (I : Isa) (T : Pace) where
   goes_on_lem l f s x h v e o q =
       clock-goes l (mid f x h) v e q
       ∙ ap (λ (a : Reached). goes M I T v l (with_registers f a.registers) (carried M I T f.fetched.ir f.registers x) a.contents)
-      (opened-on x.step s f.fetched.ir f.registers h o)
+      (opened_on x.step s f.fetched.ir f.registers h o)
 
   -- from step 1 on, only waiting is left
   waited : {k : ℕ} {b : List ℕ} {l : ℕ} → Whole k b l → (f : Context) (s : ℕ) (x : Waiting) (h : List ℕ) → x.step ≡ suc s
@@ -164,11 +164,11 @@ module _ (M : Meaning) (I : Isa) (T : Pace) where
         ap (T.result w r) (carries-turns w r e (suc k) 0 rest refl refl ∙ ap (turns T w r) (add-zero (suc k) ∙ q ∙ owed-stepped w r e)) ∙ L.exact w pc r e
     written-effect plain k w pc r h e q = refl
 
-    owed-least : (w : ℕ) (r : Registers) → 1 ≤ owed M I T w r
-    owed-least w r = L.least w
+    owed_least : (w : ℕ) (r : Registers) → 1 ≤ owed M I T w r
+    owed_least w r = L.least w
 
     pub owed_pred : (w : ℕ) (r : Registers) → suc (pred (owed M I T w r)) ≡ owed M I T w r
-    owed_pred w r = suc-pred-eq_of_pos (owed-least w r)
+    owed_pred w r = suc-pred-eq_of_pos (owed_least w r)
 
     pub instructs : {b : List ℕ} {l : ℕ} (s : Boundary) → Whole (pred (owed M I T s.context.fetched.ir s.context.registers)) b l
         → run M I T (b ++ (l ∷ [])) (live s) ≡ live (instruction M I b l s)

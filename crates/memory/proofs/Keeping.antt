@@ -4,7 +4,7 @@ use lib.ListN.{get_or-eq_default}
 use Rattle.std.proofs.lemmas.List.{set_past}
 use Rattle.bus.specs.Lanes.{in_lane, merged, marked, all_marked}
 use Rattle.bus.specs.declared.Marks.{Marks}
-use Rattle.bus.proofs.Parting.{parted, joined-fits}
+use Rattle.bus.proofs.Parting.{parted, joined_fits}
 use Rattle.memory.specs.Keeps.{Keeps}
 
 -- of two bytes by a test
@@ -20,7 +20,7 @@ picked old new m lane lt =
     let f1 = byte m.b1 (new / 256) (old / 256) in
     let f2 = byte m.b2 (new / 65536) (old / 65536) in
     let f3 = byte m.b3 (new / 16777216) (old / 16777216) in
-    ap (λ w. in_lane w lane) (mod-eq_of_lt (joined-fits _ _ _ _ f0 f1 f2 f3)) ∙ parted _ _ _ _ f0 f1 f2 f3 lane lt ∙ each lane lt
+    ap (λ w. in_lane w lane) (mod-eq_of_lt (joined_fits _ _ _ _ f0 f1 f2 f3)) ∙ parted _ _ _ _ f0 f1 f2 f3 lane lt ∙ each lane lt
   where
     each : (lane : ℕ) → lane < 4 →
         get_or (cond m.b0 (in_lane new 0) (in_lane old 0) ∷ cond m.b1 (in_lane new 1) (in_lane old 1) ∷ cond m.b2 (in_lane new 2) (in_lane old 2) ∷ cond m.b3 (in_lane new 3) (in_lane old 3) ∷ []) lane 0

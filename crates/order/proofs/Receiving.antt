@@ -5,8 +5,8 @@ use Rattle.std.proofs.lemmas.List.{take-replicate}
 use Rattle.bus.specs.declared.Marks.{Marks}
 use Rattle.bus.specs.Calls.{after}
 use Rattle.bus.specs.Lanes.{in_lane, merged, placed, only_marked}
-use Rattle.bus.specs.Over.{over-at}
-use Rattle.bus.proofs.Parting.{parted, joined-fits, replaced}
+use Rattle.bus.specs.Over.{over_at}
+use Rattle.bus.proofs.Parting.{parted, joined_fits, replaced}
 use Rattle.memory.specs.Words.{memory_meaning}
 use Rattle.rom.specs.Boot.{boot_image}
 use Rattle.bus.specs.Filled.{filled}
@@ -29,7 +29,7 @@ first x = front ++ (x ∷ replicate 4095 0)
 written : (x word : ℕ) (marks : Marks) → card_meaning.write (first x) 0 word marks ≡ first (merged x word marks)
 written x word marks =
     memory_below.write (first x) 0 word marks (omega arith)
-    ∙ over-at 579 (λ words. memory_meaning.write words 0 word marks) front (x ∷ replicate 4095 0) front_long
+    ∙ over_at 579 (λ words. memory_meaning.write words 0 word marks) front (x ∷ replicate 4095 0) front_long
 
 pub shown : (x : ℕ) → card_meaning.shown (first x) 0 ≡ x % 2 ^ 32
 shown x = memory_below.shown (first x) 0 (omega arith) ∙ ap (λ words. memory_meaning.shown words 0) (drop_at front (x ∷ replicate 4095 0) 579 front_long)
@@ -51,7 +51,7 @@ module _ (a b c d : ℕ) (fa : a < 256) (fb : b < 256) (fc : c < 256) (fd : d < 
       ∙ (written _ (placed d 3) (only_marked 3) ∙ ap first (replaced a b c 0 d fa fb fc zero_fits fd 3 (omega arith)))
 
   pub loaded : card_meaning.shown (first (loaded_as (a ∷ b ∷ c ∷ d ∷ []))) 0 ≡ loaded_as (a ∷ b ∷ c ∷ d ∷ [])
-  loaded = shown _ ∙ mod-eq_of_lt (joined-fits a b c d fa fb fc fd)
+  loaded = shown _ ∙ mod-eq_of_lt (joined_fits a b c d fa fb fc fd)
 
   pub loaded_bytes_lem : loaded_bytes card_meaning (first (loaded_as (a ∷ b ∷ c ∷ d ∷ []))) ≡ a ∷ b ∷ c ∷ d ∷ []
   loaded_bytes_lem =

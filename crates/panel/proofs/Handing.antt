@@ -6,9 +6,9 @@ use Rattle.bus.specs.Calls.{Call, after, called, clocks, lasted}
 use Rattle.bus.specs.Calls.Call.{passes, reads, writes}
 use Rattle.bus.specs.Filled.{filled}
 use Rattle.bus.specs.Meaning.{Meaning}
-use Rattle.panel.specs.Cells.{on_panel, arrived, aged, aged-none, aged-more, panel_meaning}
+use Rattle.panel.specs.Cells.{on_panel, arrived, aged, aged_none, aged_more, panel_meaning}
 use Rattle.panel.specs.HandsOut.{HandsOut, handed, handed_by}
-use Rattle.panel.proofs.Panels.{held, same_held, own_shown, own_read, below-read, own_write, below-write, both_passed}
+use Rattle.panel.proofs.Panels.{held, same_held, own_shown, own_read, below_read, own_write, below_write, both_passed}
 
 cond_same : (b : Bool) (x y z : ℕ) → (b ≡ true → x ≡ y) → cond b x z ≡ cond b y z
 cond_same true x y z e = e refl
@@ -42,8 +42,8 @@ module _ (m : Meaning) (f bytes : List ℕ) (long : length bytes ≡ 64) (few : 
     no_clock : lasted c ≡ 0
     there : arrived age taken (length f) ≡ true
 
-  step-read : (age taken : ℕ) (q : List ℕ) (at : ℕ) → Keeps age taken q (reads at) ⊎ Gives age taken q (reads at)
-  step-read age taken q at =
+  step_read : (age taken : ℕ) (q : List ℕ) (at : ℕ) → Keeps age taken q (reads at) ⊎ Gives age taken q (reads at)
+  step_read age taken q at =
       ⊎_elim
       (λ on. ⊎_elim
       (λ two. ⊎_elim (λ t. inr (took two t)) (λ t. inl (not_there on two t)) (cases_Bool (arrived age taken (length f))))
@@ -77,7 +77,7 @@ module _ (m : Meaning) (f bytes : List ℕ) (long : length bytes ≡ 64) (few : 
           let r0 : (panel_meaning m).shown s 0x3FFFF3 ≡ 0 = ready ∙ cond-false _ _ _ t in
           record {
             below = q;
-            is = ap (λ a. (panel_meaning m).read s a) two ∙ sym (own_read m age taken (length f) bytes q 0x3FFFF2 long refl) ∙ ap (λ n. state age n q) (cond-false _ _ _ t) ∙ ap (λ a. state a taken q) (sym (aged-none age));
+            is = ap (λ a. (panel_meaning m).read s a) two ∙ sym (own_read m age taken (length f) bytes q 0x3FFFF2 long refl) ∙ ap (λ n. state age n q) (cond-false _ _ _ t) ∙ ap (λ a. state a taken q) (sym (aged_none age));
             none = cond-false _ _ _ (and_right (eqb at 0x3FFFF2) _ (ap (λ x. eqb x 1) r0));
           }
 
@@ -88,7 +88,7 @@ module _ (m : Meaning) (f bytes : List ℕ) (long : length bytes ≡ 64) (few : 
           let ne : at - 0x3FFFF0 ≡ 2 → ⊥ = λ e. other (omega arith) in
           record {
             below = q;
-            is = sym (own_read m age taken (length f) bytes q at long on) ∙ ap (λ n. state age n q) (cond-false _ _ _ (and_left _ _ (ne_eqb (at - 0x3FFFF0) 2 ne))) ∙ ap (λ a. state a taken q) (sym (aged-none age));
+            is = sym (own_read m age taken (length f) bytes q at long on) ∙ ap (λ n. state age n q) (cond-false _ _ _ (and_left _ _ (ne_eqb (at - 0x3FFFF0) 2 ne))) ∙ ap (λ a. state a taken q) (sym (aged_none age));
             none = cond-false _ _ _ (and_left _ _ (ne_eqb at 0x3FFFF2 other));
           }
 
@@ -97,23 +97,23 @@ module _ (m : Meaning) (f bytes : List ℕ) (long : length bytes ≡ 64) (few : 
           let other : at ≡ 0x3FFFF2 → ⊥ = λ e. let z : false ≡ true = sym off ∙ ap on_panel e in false≢true z in
           record {
             below = m.read q at;
-            is = sym (below-read m age taken (length f) bytes q at long off) ∙ ap (λ a. state a taken (m.read q at)) (sym (aged-none age));
+            is = sym (below_read m age taken (length f) bytes q at long off) ∙ ap (λ a. state a taken (m.read q at)) (sym (aged_none age));
             none = cond-false _ _ _ (and_left _ _ (ne_eqb at 0x3FFFF2 other));
           }
 
   step : (age taken : ℕ) (q : List ℕ) (c : Call) → Keeps age taken q c ⊎ Gives age taken q c
   step age taken q (passes n) = inl (record { below = m.passed q n; is = sym (both_passed m age taken (length f) bytes q n long); none = refl })
-  step age taken q (reads at) = step-read age taken q at
+  step age taken q (reads at) = step_read age taken q at
   step age taken q (writes at word marks) =
       ⊎_elim
       (λ on. inl (record {
         below = q;
-        is = sym (own_write m age taken (length f) bytes q at long word marks on) ∙ ap (λ a. state a taken q) (sym (aged-none age));
+        is = sym (own_write m age taken (length f) bytes q at long word marks on) ∙ ap (λ a. state a taken q) (sym (aged_none age));
         none = refl;
       }))
       (λ off. inl (record {
         below = m.write q at word marks;
-        is = sym (below-write m age taken (length f) bytes q at long word marks off) ∙ ap (λ a. state a taken (m.write q at word marks)) (sym (aged-none age));
+        is = sym (below_write m age taken (length f) bytes q at long word marks off) ∙ ap (λ a. state a taken (m.write q at word marks)) (sym (aged_none age));
         none = refl;
       }))
       (cases_Bool (on_panel at))
@@ -131,7 +131,7 @@ module _ (m : Meaning) (f bytes : List ℕ) (long : length bytes ≡ 64) (few : 
       let s : List ℕ = state age taken q in
       let t : List ℕ = state (aged age (lasted c)) taken k.below in
       let e : handed M s (c ∷ cs) ≡ handed M t cs = ap (λ x. x ++ handed M (called M s c) cs) k.none ∙ ap (λ h. handed M h cs) k.is in
-      let more : aged (aged age (lasted c)) (clocks cs) ≡ aged age (clocks (c ∷ cs)) = aged-more age (lasted c) (clocks cs) in
+      let more : aged (aged age (lasted c)) (clocks cs) ≡ aged age (clocks (c ∷ cs)) = aged_more age (lasted c) (clocks cs) in
       let long-is : length (handed M s (c ∷ cs)) ≡ length (handed M t cs) = ap length e in
       record {
         below = rest.below;
@@ -166,7 +166,7 @@ module _ (m : Meaning) (f bytes : List ℕ) (long : length bytes ≡ 64) (few : 
   comes : (cs : List Call) (age taken : ℕ) (q : List ℕ) → age ≤ 833920 → 13030 * taken ≤ age → Comes age taken q cs
   comes [] age taken q old due = record {
     below = q;
-    ends = ap (λ a. state a taken q) (sym (aged-none age)) ∙ ap (λ n. state (aged age 0) n q) (omega arith);
+    ends = ap (λ a. state a taken q) (sym (aged_none age)) ∙ ap (λ n. state (aged age 0) n q) (omega arith);
     order = refl;
     time = omega arith;
   }
@@ -180,7 +180,7 @@ module _ (m : Meaning) (f bytes : List ℕ) (long : length bytes ≡ 64) (few : 
   hands_out q = record {
     in_order = λ cs. (comes cs 0 0 q (omega arith) (omega arith)).order;
     none_early = λ cs. let z = (comes cs 0 0 q (omega arith) (omega arith)).time in omega (arith, z);
-    shows-byte = λ cs.
+    shows_byte = λ cs.
         let all = comes cs 0 0 q (omega arith) (omega arith) in
         let k = length (handed (panel_meaning m) (held 0 0 (length f) bytes q) cs) in
         let zero-k : 0 + k ≡ k = omega arith in
@@ -188,7 +188,7 @@ module _ (m : Meaning) (f bytes : List ℕ) (long : length bytes ≡ 64) (few : 
         ∙ sym (own_shown m (aged 0 (clocks cs)) k (length f) bytes all.below 0x3FFFF2 long refl)
         ∙ cond_same (arrived (aged 0 (clocks cs)) k (length f)) _ _ 0 (λ t. same k (ltb-true _ _ (and_parts _ _ t).0))
         ∙ ap (λ t. cond t (get_or f k 0) 0) (arrived-aged (clocks cs) k (length f) few);
-    shows-ready = λ cs.
+    shows_ready = λ cs.
         let all = comes cs 0 0 q (omega arith) (omega arith) in
         let k = length (handed (panel_meaning m) (held 0 0 (length f) bytes q) cs) in
         let zero-k : 0 + k ≡ k = omega arith in

@@ -7,7 +7,7 @@ use Rattle.refusal.specs.Heard.{Told, refused, nothing}
 use Rattle.bus.specs.declared.Marks.{Marks}
 use Rattle.bus.specs.Filled.{filled}
 use Rattle.bus.specs.Meaning.{Meaning}
-use Rattle.bus.specs.Over.{over, over_none, over-more}
+use Rattle.bus.specs.Over.{over, over_none, over_more}
 
 -- a new panel over a bus with these contents: age 0, nothing taken, the first 64 bytes of a feed
 abbrev pub new_panel : List ℕ → List ℕ → List ℕ
@@ -55,8 +55,8 @@ abbrev pub panel_passed : Meaning → List ℕ → ℕ → List ℕ
 panel_passed m [] n = []
 panel_passed m (age ∷ h) n = aged age n ∷ over 66 (λ below. m.passed below n) h
 
-cell-fits : (age taken count : ℕ) (feed : List ℕ) (k : ℕ) → cell age taken count feed k < 2 ^ 32
-cell-fits age taken count feed k =
+cell_fits : (age taken count : ℕ) (feed : List ℕ) (k : ℕ) → cell age taken count feed k < 2 ^ 32
+cell_fits age taken count feed k =
     let P : ℕ → Type 0 = λ x. x < 2 ^ 32 in
     let w = arrived age taken count in
     cond_both (k == 2) _ _ P
@@ -65,24 +65,24 @@ cell-fits age taken count feed k =
 
 pub panel_fits : (m : Meaning) (h : List ℕ) (at : ℕ) → panel_shown m h at < 2 ^ 32
 panel_fits m h at =
-    cond_both (on_panel at) _ _ (λ x. x < 2 ^ 32) (λ e. cell-fits (slice_index h 0) (slice_index h 1) (slice_index h 2) (take 64 (drop 3 h)) (at - 0x3FFFF0)) (λ e. m.fits (drop 67 h) at)
+    cond_both (on_panel at) _ _ (λ x. x < 2 ^ 32) (λ e. cell_fits (slice_index h 0) (slice_index h 1) (slice_index h 2) (take 64 (drop 3 h)) (at - 0x3FFFF0)) (λ e. m.fits (drop 67 h) at)
 
-pub aged-none : (age : ℕ) → aged age 0 ≡ age
-aged-none age = omega arith
+pub aged_none : (age : ℕ) → aged age 0 ≡ age
+aged_none age = omega arith
 
-pub aged-more : (age a b : ℕ) → aged (aged age a) b ≡ aged age (a + b)
-aged-more age a b = omega arith
+pub aged_more : (age a b : ℕ) → aged (aged age a) b ≡ aged age (a + b)
+aged_more age a b = omega arith
 
 pub panel_none : (m : Meaning) (h : List ℕ) → panel_passed m h 0 ≡ h
 panel_none m [] = refl
 panel_none m (age ∷ h) =
-    ap (λ x. x ∷ over 66 (λ below. m.passed below 0) h) (aged-none age) ∙ ap (λ x. age ∷ x) (over_none 66 (λ below. m.passed below 0) m.none h)
+    ap (λ x. x ∷ over 66 (λ below. m.passed below 0) h) (aged_none age) ∙ ap (λ x. age ∷ x) (over_none 66 (λ below. m.passed below 0) m.none h)
 
 pub panel_more : (m : Meaning) (h : List ℕ) (a b : ℕ) → panel_passed m (panel_passed m h a) b ≡ panel_passed m h (a + b)
 panel_more m [] a b = refl
 panel_more m (age ∷ h) a b =
-    ap (λ x. x ∷ over 66 (λ y. m.passed y b) (over 66 (λ y. m.passed y a) h)) (aged-more age a b)
-    ∙ ap (λ x. aged age (a + b) ∷ x) (over-more 66 (λ x. m.passed x a) (λ x. m.passed x b) (λ x. m.passed x (a + b)) (λ x. m.more x a b) h)
+    ap (λ x. x ∷ over 66 (λ y. m.passed y b) (over 66 (λ y. m.passed y a) h)) (aged_more age a b)
+    ∙ ap (λ x. aged age (a + b) ∷ x) (over_more 66 (λ x. m.passed x a) (λ x. m.passed x b) (λ x. m.passed x (a + b)) (λ x. m.more x a b) h)
 
 abbrev pub panel_meaning : Meaning → Meaning
 panel_meaning m = record {

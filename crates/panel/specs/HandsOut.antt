@@ -23,8 +23,8 @@ pub record HandsOut (m : Meaning) (h feed : List ℕ) : Type 0 where
   -- byte k is handed out only once 13,030 × (k + 1) clocks have passed
   pub none_early : (cs : List Call) → 13030 * length (handed m h cs) ≤ clocks cs
   -- and as soon as they have, the next byte is shown until it is read
-  pub shows-byte : (cs : List Call) →
+  pub shows_byte : (cs : List Call) →
       m.shown (after m h cs) 0x3FFFF2
       ≡ cond (arrived (clocks cs) (length (handed m h cs)) (length feed)) (slice_index feed (length (handed m h cs))) 0
-  pub shows-ready : (cs : List Call) →
+  pub shows_ready : (cs : List Call) →
       m.shown (after m h cs) 0x3FFFF3 ≡ cond (arrived (clocks cs) (length (handed m h cs)) (length feed)) 1 0

@@ -13,8 +13,8 @@ use Rattle.unit.specs.declared.Division.{Division}
 use Rattle.unit.specs.Waiting.{carried_after}
 use Rattle.unit.specs.Steps.{mul_start, mul_step, mul_answer, div_start, div_step, div_answer}
 use Rattle.unit.proofs.Waitings.{waits}
-use Rattle.unit.proofs.Products.{product-words}
-use Rattle.unit.proofs.Divisions.{division-words}
+use Rattle.unit.proofs.Products.{product_words}
+use Rattle.unit.proofs.Divisions.{division_words}
 use Rattle.machine.specs.declared.Registers.{Registers}
 use Rattle.machine.specs.State.{rest}
 use Rattle.machine.specs.Isa.{stepping, Lawful, turns}
@@ -43,27 +43,27 @@ module _ (w : ℕ) (g : Registers) where
   divides e (suc n) = ap₂ (λ (k : Kind) (p : Pair). turn_by k w g n p) e (divides e n)
 
   -- after all of them
-  product-given : kind_of w ≡ Multiply → multiplied_by w g (turns pace w g 32) ≡ multiplied w g
+  product_given : kind_of w ≡ Multiply → multiplied_by w g (turns pace w g 32) ≡ multiplied w g
   unfolding multiplied_by multiplied
-  product-given e =
+  product_given e =
       let f : Factors = factors w g in
       ap (λ (p : Pair). given w g (mul_answer f p)) (multiplies e 32 ∙ (waits (mul_start f) (mul_step f) 32 0 0 rest.pair).whole (lit< tt))
-      ∙ ap (given w g) (product-words f first_fits)
+      ∙ ap (given w g) (product_words f first_fits)
 
-  quotient-given : kind_of w ≡ Divide → divided_by w g (turns pace w g 32) ≡ divided w g
+  quotient_given : kind_of w ≡ Divide → divided_by w g (turns pace w g 32) ≡ divided w g
   unfolding divided_by divided
-  quotient-given e =
+  quotient_given e =
       let f : Division = division w g in
       ap (λ (p : Pair). given w g (div_answer f p)) (divides e 32 ∙ (waits (div_start f) (div_step f) 32 0 0 rest.pair).whole (lit< tt))
-      ∙ ap (given w g) (division-words f dividend_fits)
+      ∙ ap (given w g) (division_words f dividend_fits)
 
-  exact-by : (pc : ℕ) (k : Kind) → kind_of w ≡ k → class_by k ≡ stepping → result_by k w g (turns pace w g (clocks_by k)) ≡ effect_by k w pc g
-  exact-by pc (Register op) e s = let z : ◌≡◌ {A = ℕ} 0 1 = cc in absurd (omega arith)
-  exact-by pc Multiply e s = product-given e
-  exact-by pc Divide e s = quotient-given e
-  exact-by pc Load e s = let z : ◌≡◌ {A = ℕ} 0 1 = cc in absurd (omega arith)
-  exact-by pc Store e s = let z : ◌≡◌ {A = ℕ} 0 1 = cc in absurd (omega arith)
-  exact-by pc Branch e s = let z : ◌≡◌ {A = ℕ} 0 1 = cc in absurd (omega arith)
+  exact_by : (pc : ℕ) (k : Kind) → kind_of w ≡ k → class_by k ≡ stepping → result_by k w g (turns pace w g (clocks_by k)) ≡ effect_by k w pc g
+  exact_by pc (Register op) e s = let z : ◌≡◌ {A = ℕ} 0 1 = cc in absurd (omega arith)
+  exact_by pc Multiply e s = product_given e
+  exact_by pc Divide e s = quotient_given e
+  exact_by pc Load e s = let z : ◌≡◌ {A = ℕ} 0 1 = cc in absurd (omega arith)
+  exact_by pc Store e s = let z : ◌≡◌ {A = ℕ} 0 1 = cc in absurd (omega arith)
+  exact_by pc Branch e s = let z : ◌≡◌ {A = ℕ} 0 1 = cc in absurd (omega arith)
 
 pub fits : Lawful card pace
-fits = record { least = λ w. at_least_one (kind_of w); exact = λ w pc g s. exact-by w g pc (kind_of w) refl s }
+fits = record { least = λ w. at_least_one (kind_of w); exact = λ w pc g s. exact_by w g pc (kind_of w) refl s }

@@ -4,7 +4,7 @@ use lib.ListN.{get_or-append, get_or-replicate, length-replicate}
 use Rattle.std.proofs.lemmas.Bool.{cond-true, cond-false, and_parts, and_from, leb-true, ltb-true, le-leb, lt-ltb}
 use Rattle.bus.specs.declared.Marks.{Marks}
 use Rattle.bus.specs.Meaning.{Meaning}
-use Rattle.bus.specs.Over.{over-at}
+use Rattle.bus.specs.Over.{over_at}
 use Rattle.rom.specs.Boot.{boot_image, ShowsBoot}
 use Rattle.rom.specs.Table.{in_rom, rom_shown, rom_read, rom_write, rom_passed, rom_meaning}
 
@@ -17,20 +17,20 @@ module _ (m : Meaning) (p q : List ℕ) (a : ℕ) (long : length p ≡ 512) wher
       let at : a - 0x3FF800 < length p = omega arith in
       sym (cond-true _ _ _ e ∙ ap (λ x. x % 2 ^ 32) (get_or-append p q 0 _ at) ∙ mod-eq_of_lt fit)
 
-  pub below-shown : in_rom a ≡ false → m.shown q a ≡ rom_shown m (p ++ q) a
-  below-shown e = sym (cond-false _ _ _ e ∙ ap (λ h. m.shown h a) (drop_at p q 512 long))
+  pub below_shown : in_rom a ≡ false → m.shown q a ≡ rom_shown m (p ++ q) a
+  below_shown e = sym (cond-false _ _ _ e ∙ ap (λ h. m.shown h a) (drop_at p q 512 long))
 
   pub own_read : in_rom a ≡ true → p ++ q ≡ rom_read m (p ++ q) a
   own_read e = sym (cond-true _ _ _ e)
 
-  pub below-read : in_rom a ≡ false → p ++ m.read q a ≡ rom_read m (p ++ q) a
-  below-read e = sym (cond-false _ _ _ e ∙ over-at 512 (λ b. m.read b a) p q long)
+  pub below_read : in_rom a ≡ false → p ++ m.read q a ≡ rom_read m (p ++ q) a
+  below_read e = sym (cond-false _ _ _ e ∙ over_at 512 (λ b. m.read b a) p q long)
 
-  pub below-write : (w : ℕ) (k : Marks) → in_rom a ≡ false → p ++ m.write q a w k ≡ rom_write m (p ++ q) a w k
-  below-write w k e = sym (cond-false _ _ _ e ∙ over-at 512 (λ b. m.write b a w k) p q long)
+  pub below_write : (w : ℕ) (k : Marks) → in_rom a ≡ false → p ++ m.write q a w k ≡ rom_write m (p ++ q) a w k
+  below_write w k e = sym (cond-false _ _ _ e ∙ over_at 512 (λ b. m.write b a w k) p q long)
 
-pub below-passed : (m : Meaning) (p q : List ℕ) (n : ℕ) → length p ≡ 512 → p ++ m.passed q n ≡ rom_passed m (p ++ q) n
-below-passed m p q n long = sym (over-at 512 (λ b. m.passed b n) p q long)
+pub below_passed : (m : Meaning) (p q : List ℕ) (n : ℕ) → length p ≡ 512 → p ++ m.passed q n ≡ rom_passed m (p ++ q) n
+below_passed m p q n long = sym (over_at 512 (λ b. m.passed b n) p q long)
 
 boot_fits : (k : ℕ) → k < 512 → get_or boot_image k 0 < 2 ^ 32
 boot_fits zero lt = omega arith

@@ -5,7 +5,7 @@ use Rattle.std.proofs.lemmas.Bool.{cond_both}
 use Rattle.refusal.specs.Heard.{Told, refused, nothing}
 use Rattle.bus.specs.declared.Marks.{Marks}
 use Rattle.bus.specs.Meaning.{Meaning, Still}
-use Rattle.bus.specs.Over.{over, over_none, over-more}
+use Rattle.bus.specs.Over.{over, over_none, over_more}
 
 -- what is told of an image of so many words
 abbrev pub image_refusal : ℕ → Option Told
@@ -41,7 +41,7 @@ rom_meaning m = record {
   passed = rom_passed m;
   fits = rom_fits m;
   none = λ h. over_none 512 (λ below. m.passed below 0) m.none h;
-  more = λ h a b. over-more 512 (λ x. m.passed x a) (λ x. m.passed x b) (λ x. m.passed x (a + b)) (λ x. m.more x a b) h;
+  more = λ h a b. over_more 512 (λ x. m.passed x a) (λ x. m.passed x b) (λ x. m.passed x (a + b)) (λ x. m.more x a b) h;
 }
 
 -- a ROM over a still bus is still

@@ -10,27 +10,27 @@ use Rattle.unit.specs.Steps.{half, odd, total, add_shift}
 use Rattle.unit.specs.Exact.{OneStep, AddAndShift}
 use Rattle.unit.proofs.Ints.{half_is}
 
-total-by : (b : ℕ) (h n : ℤ) → b < 2 → up (cond (eqb b 0) h (h +ℤ n)) + down h + b * down n ≡ down (cond (eqb b 0) h (h +ℤ n)) + up h + b * up n
-total-by zero h n lt = omega arith
-total-by (suc zero) h n lt = omega (arith, sum_is_lem h n)
-total-by (suc (suc b)) h n lt = absurd (omega arith)
+total_by : (b : ℕ) (h n : ℤ) → b < 2 → up (cond (eqb b 0) h (h +ℤ n)) + down h + b * down n ≡ down (cond (eqb b 0) h (h +ℤ n)) + up h + b * up n
+total_by zero h n lt = omega arith
+total_by (suc zero) h n lt = omega (arith, sum_is_lem h n)
+total_by (suc (suc b)) h n lt = absurd (omega arith)
 
 -- the law of one step in naturals, each integer by its two sides
-pub step-sides : (v : ℕ) (n : ℤ) (p : Pair) → 2 * (up (add_shift (suc v) n p).high * 2 ^ suc v + (add_shift (suc v) n p).low) + down p.high * 2 ^ suc v + (p.low % 2) * (down n * 2 ^ suc v) + p.low % 2 ≡ 2 * (down (add_shift (suc v) n p).high * 2 ^ suc v) + (up p.high * 2 ^ suc v + p.low) + (p.low % 2) * (up n * 2 ^ suc v)
-step-sides v n p =
+pub step_sides : (v : ℕ) (n : ℤ) (p : Pair) → 2 * (up (add_shift (suc v) n p).high * 2 ^ suc v + (add_shift (suc v) n p).low) + down p.high * 2 ^ suc v + (p.low % 2) * (down n * 2 ^ suc v) + p.low % 2 ≡ 2 * (down (add_shift (suc v) n p).high * 2 ^ suc v) + (up p.high * 2 ^ suc v + p.low) + (p.low % 2) * (up n * 2 ^ suc v)
+step_sides v n p =
     let t = total n p in
     let W = 2 ^ suc v in
     let b = p.low % 2 in
-    let e : 2 * up (half t) + odd t + down p.high + b * down n ≡ 2 * down (half t) + up p.high + b * up n = omega (arith, total-by b p.high n (omega arith), half_is t) in
+    let e : 2 * up (half t) + odd t + down p.high + b * down n ≡ 2 * down (half t) + up p.high + b * up n = omega (arith, total_by b p.high n (omega arith), half_is t) in
     let k : suc v - 1 ≡ v = omega arith in
     let m = simp (add-mul, mul_assoc) at (ap (λ (x : ℕ). x * W) e) in
     let c : odd t * 2 ^ suc v ≡ 2 * (odd t * 2 ^ v) = ap (λ (x : ℕ). odd t * x) (pow-succ' 2 v) ∙ mul_left_comm (odd t) 2 (2 ^ v) in
     rw k (omega (arith, m, c))
 
-bit-by : (b : ℕ) (n : ℤ) (W : ℕ) → b < 2 → up (pos b *ℤ (n *ℤ pos W -ℤ pos 1)) + b * (down n * W) + b ≡ down (pos b *ℤ (n *ℤ pos W -ℤ pos 1)) + b * (up n * W)
-bit-by zero n W lt = omega (arith, ints)
-bit-by (suc zero) n W lt = omega (arith, ints)
-bit-by (suc (suc b)) n W lt = absurd (omega arith)
+bit_by : (b : ℕ) (n : ℤ) (W : ℕ) → b < 2 → up (pos b *ℤ (n *ℤ pos W -ℤ pos 1)) + b * (down n * W) + b ≡ down (pos b *ℤ (n *ℤ pos W -ℤ pos 1)) + b * (up n * W)
+bit_by zero n W lt = omega (arith, ints)
+bit_by (suc zero) n W lt = omega (arith, ints)
+bit_by (suc (suc b)) n W lt = absurd (omega arith)
 
 in_whole :
     (W b l l' : ℕ) (h z n : ℤ)
@@ -39,13 +39,13 @@ in_whole :
     → pos 2 *ℤ (z *ℤ pos W +ℤ pos l') ≡ h *ℤ pos W +ℤ pos l +ℤ pos b *ℤ (n *ℤ pos W -ℤ pos 1)
 in_whole W b l l' h z n lt e =
     let x = pos b *ℤ (n *ℤ pos W -ℤ pos 1) in
-    let bit = bit-by b n W lt in
+    let bit = bit_by b n W lt in
     same_in _ _ (omega (arith, product_is (pos 2) (z *ℤ pos W +ℤ pos l'), sum_is_lem (z *ℤ pos W) (pos l'), product_is z (pos W), sum_is_lem (h *ℤ pos W +ℤ pos l) x, sum_is_lem (h *ℤ pos W) (pos l), product_is h (pos W)))
 
-pub one-step : OneStep
-one-step zero n p lt = absurd (omega arith)
-one-step (suc v) n p lt =
-    in_whole (2 ^ suc v) (p.low % 2) p.low (add_shift (suc v) n p).low p.high (add_shift (suc v) n p).high n (mod_below p.low 2 (lit< tt)) (step-sides v n p)
+pub one_step : OneStep
+one_step zero n p lt = absurd (omega arith)
+one_step (suc v) n p lt =
+    in_whole (2 ^ suc v) (p.low % 2) p.low (add_shift (suc v) n p).low p.high (add_shift (suc v) n p).high n (mod_below p.low 2 (lit< tt)) (step_sides v n p)
 
 -- one step more in the sum: P is 2^k, u the bits of l so far, and this step adds its own m
 chain :
@@ -78,7 +78,7 @@ module _ (v : ℕ) (n : ℤ) (l k u : ℕ) (p : Pair) (lt : u < 2 ^ k) (e : Sum 
       let q = add_shift (suc v) n p in
       let W = 2 ^ suc v in
       let b = p.low % 2 in
-      let more = chain (2 ^ k) u b (up p.high * W + p.low) (down p.high * W) (up q.high * W + q.low) (down q.high * W) (up n * W) (down n * W) (up n * W) (down n * W) l (step-sides v n p) e in
+      let more = chain (2 ^ k) u b (up p.high * W + p.low) (down p.high * W) (up q.high * W + q.low) (down q.high * W) (up n * W) (down n * W) (up n * W) (down n * W) l (step_sides v n p) e in
       (u + 2 ^ k * b, rw (pow-succ' 2 k) (wider (2 ^ k) u b lt (mod_below p.low 2 (lit< tt))), rw (pow-succ' 2 k, add-mul u (2 ^ k * b) (up n * W), add-mul u (2 ^ k * b) (down n * W)) (omega (arith, more)))
 
 module _ (v : ℕ) (n : ℤ) (a : ℕ → ℤ) (l : ℕ) (agree : (s : ℕ) → s < v → a s ≡ n) where
@@ -108,7 +108,7 @@ module _ (v : ℕ) (n m : ℤ) (l u : ℕ) (p : Pair) (small : l < 2 ^ suc v) (l
   last =
       let W = 2 ^ suc v in
       let t = 2 ^ v * (p.low % 2) in
-      let more = chain (2 ^ v) u (p.low % 2) (up p.high * W + p.low) (down p.high * W) (up q.high * W + q.low) (down q.high * W) (up n * W) (down n * W) (up m * W) (down m * W) l (step-sides v m p) e in
+      let more = chain (2 ^ v) u (p.low % 2) (up p.high * W + p.low) (down p.high * W) (up q.high * W + q.low) (down q.high * W) (up n * W) (down n * W) (up m * W) (down m * W) l (step_sides v m p) e in
       let A = up q.high * W + q.low in
       let B = down q.high * W in
       let below : u + t < W = rw (pow-succ' 2 v) (wider (2 ^ v) u (p.low % 2) lt (mod_below p.low 2 (lit< tt))) in

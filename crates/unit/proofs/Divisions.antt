@@ -80,40 +80,40 @@ is_plain f (suc s) h k =
     let m : 2 ^ s ≤ 2 ^ 32 = pow_mono le in
     ap (div_step f s) (is_plain f s h (omega arith)) ∙ same_step f s p (omega (arith, r.small))
 
-pub division-is-plain : DivisionIsPlain
-division-is-plain f s h k = (is_plain f s h k, (reached f.divisor f.dividend s h).1.small)
+pub division_is_plain : DivisionIsPlain
+division_is_plain f s h k = (is_plain f s h k, (reached f.divisor f.dividend s h).1.small)
 
 ended : (n b q r d : ℕ) → SoFar n b (2 ^ 32) q r d → (d ≡ q) × (r + q * n ≡ b)
 ended n b q r d s = omega (arith, s.sum, s.quot, s.word)
 
 -- of a pair that has been reached after 32 steps
-divided-by : (f : Division) (p : ℕ × ℕ) → Reached f.divisor f.dividend (2 ^ 32) p → Divided f p.1 p.0
-divided-by f p (q, s) =
+divided_by : (f : Division) (p : ℕ × ℕ) → Reached f.divisor f.dividend (2 ^ 32) p → Divided f p.1 p.0
+divided_by f p (q, s) =
     let e = ended f.divisor f.dividend q p.0 p.1 s in
     (λ h. (rw e.0 (omega (arith, e.1)), s.under h), λ z. (omega (arith, e.0, s.ones z), omega (arith, e.1, ap (λ (n : ℕ). q * n) z)))
 
 answer_of : (f : Division) (p : ℕ × ℕ) → p.0 < 2 ^ 32 → div_answer f (as_pair p) ≡ record { low = p.1; high = p.0 }
 answer_of f p h = let e : p.0 % 2 ^ 32 ≡ p.0 = omega arith in rw e
 
-answer-is : (f : Division) → f.dividend < 2 ^ 32 → div_answer f (after (div_step f) (div_start f) 32) ≡ record { low = (plain f.divisor f.dividend 32).1; high = (plain f.divisor f.dividend 32).0 }
-answer-is f h =
+answer_is : (f : Division) → f.dividend < 2 ^ 32 → div_answer f (after (div_step f) (div_start f) 32) ≡ record { low = (plain f.divisor f.dividend 32).1; high = (plain f.divisor f.dividend 32).0 }
+answer_is f h =
     ap (div_answer f) (is_plain f 32 h (omega arith)) ∙ answer_of f (plain f.divisor f.dividend 32) (reached f.divisor f.dividend 32 h).1.small
 
-pub division-is-exact : DivisionIsExact
-division-is-exact f h =
+pub division_is_exact : DivisionIsExact
+division_is_exact f h =
     let P : Words → Type 0 = λ w. Divided f w.low w.high in
-    subst P (sym (answer-is f h)) (divided-by f (plain f.divisor f.dividend 32) (reached f.divisor f.dividend 32 h))
+    subst P (sym (answer_is f h)) (divided_by f (plain f.divisor f.dividend 32) (reached f.divisor f.dividend 32 h))
 
-from-divided : (n b q r : ℕ) → Divided (record { dividend = b; divisor = n }) q r → ◌≡◌ {A = Words} (record { low = q; high = r }) (record { low = quotient (record { dividend = b; divisor = n }); high = remainder (record { dividend = b; divisor = n }) })
-from-divided zero b q r d = let e = d.1 refl in rw (e.0, e.1)
-from-divided (suc n) b q r d =
+from_divided : (n b q r : ℕ) → Divided (record { dividend = b; divisor = n }) q r → ◌≡◌ {A = Words} (record { low = q; high = r }) (record { low = quotient (record { dividend = b; divisor = n }); high = remainder (record { dividend = b; divisor = n }) })
+from_divided zero b q r d = let e = d.1 refl in rw (e.0, e.1)
+from_divided (suc n) b q r d =
     let e = d.0 (omega arith) in
     let i : b / suc n ≡ q = ap (λ (x : ℕ). x / suc n) (sym e.0) ∙ digits_div q e.1 in
     let j : b % suc n ≡ r = ap (λ (x : ℕ). x % suc n) (sym e.0) ∙ digits_mod q e.1 in
     let z : eqb (suc n) 0 ≡ false = grind (arith, nat_tests) in
     rw (z, i, j)
 
-pub division-words : DivisionWords
-division-words f h =
+pub division_words : DivisionWords
+division_words f h =
     let a = div_answer f (after (div_step f) (div_start f) 32) in
-    from-divided f.divisor f.dividend a.low a.high (division-is-exact f h)
+    from_divided f.divisor f.dividend a.low a.high (division_is_exact f h)

@@ -13,8 +13,8 @@ sides (pos n) h k = omega arith
 sides (negsuc n) h k = omega arith
 
 -- a product of two words that are read as signed
-pub product-fits : (a b : ℤ) → SFits w32 a → SFits w32 b → SFits w64 (a *ℤ b)
-product-fits a b f g =
+pub product_fits : (a b : ℤ) → SFits w32 a → SFits w32 b → SFits w64 (a *ℤ b)
+product_fits a b f g =
     let s = sides a (omega (arith, ints)) (omega (arith, ints)) in
     let t = sides b (omega (arith, ints)) (omega (arith, ints)) in
     fits_in w64 (a *ℤ b) (omega (arith, product_is a b, mul-le (up a) (up b) (2 ^ 31 - 1) (2 ^ 31 - 1) s.0 t.0, mul-le (down a) (down b) (2 ^ 31) (2 ^ 31) s.1 t.1, mul-le (up a) (down b) (2 ^ 31 - 1) (2 ^ 31) s.0 t.1, mul-le (down a) (up b) (2 ^ 31) (2 ^ 31 - 1) s.1 t.0))

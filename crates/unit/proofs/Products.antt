@@ -13,31 +13,31 @@ use Rattle.unit.proofs.Ints.{half_is}
 use Rattle.unit.proofs.AddShift.{add_and_shift}
 
 -- s is x - y
-signed-sum : (z s : ℤ) (x y : ℕ) → up s + y ≡ down s + x → z *ℤ pos x +ℤ neg_ℤ z *ℤ pos y ≡ s *ℤ z
-signed-sum z s x y e =
+signed_sum : (z s : ℤ) (x y : ℕ) → up s + y ≡ down s + x → z *ℤ pos x +ℤ neg_ℤ z *ℤ pos y ≡ s *ℤ z
+signed_sum z s x y e =
     let u = simp add-mul at (ap (λ (k : ℕ). k * up z) e) in
     let d = simp add-mul at (ap (λ (k : ℕ). k * down z) e) in
     let nu : up (neg_ℤ z) * y ≡ down z * y = ap (λ (k : ℕ). k * y) (neg_is z).0 in
     let nd : down (neg_ℤ z) * y ≡ up z * y = ap (λ (k : ℕ). k * y) (neg_is z).1 in
     same_in _ _ (omega (arith, u, d, nu, nd, sum_is_lem (z *ℤ pos x) (neg_ℤ z *ℤ pos y), product_is z (pos x), product_is (neg_ℤ z) (pos y), product_is s z, mul_comm x (up z), mul_comm x (down z), mul_comm y (up z), mul_comm y (down z)))
 
-word-sides : (l : ℕ) → l < 2 ^ 32 → (t : Bool) → ltb l (2 ^ 31) ≡ t → up (sel t (pos l) (negsuc (2 ^ 32 - suc l))) + (l - l % 2 ^ 31) ≡ down (sel t (pos l) (negsuc (2 ^ 32 - suc l))) + l % 2 ^ 31
-word-sides l h true e = let k : l < 2 ^ 31 = ltb→lt l (2 ^ 31) (subst T (sym e) tt) in omega arith
-word-sides l h false e = let k : 2 ^ 31 ≤ l = nltb→le l (2 ^ 31) (subst (λ (t : Bool). T (not t)) (sym e) tt) in omega arith
+word_sides : (l : ℕ) → l < 2 ^ 32 → (t : Bool) → ltb l (2 ^ 31) ≡ t → up (sel t (pos l) (negsuc (2 ^ 32 - suc l))) + (l - l % 2 ^ 31) ≡ down (sel t (pos l) (negsuc (2 ^ 32 - suc l))) + l % 2 ^ 31
+word_sides l h true e = let k : l < 2 ^ 31 = ltb→lt l (2 ^ 31) (subst T (sym e) tt) in omega arith
+word_sides l h false e = let k : 2 ^ 31 ≤ l = nltb→le l (2 ^ 31) (subst (λ (t : Bool). T (not t)) (sym e) tt) in omega arith
 
 by_sign : (signed : Bool) (l n : ℕ) → l < 2 ^ 32 → read signed n *ℤ pos (l % 2 ^ 31) +ℤ cond (signed && true) (neg_ℤ (read signed n)) (read signed n) *ℤ pos (l - l % 2 ^ 31) ≡ read signed l *ℤ read signed n
-by_sign true l n h = signed-sum (to_z w32 n) (to_z w32 l) (l % 2 ^ 31) (l - l % 2 ^ 31) (word-sides l h (ltb l (2 ^ 31)) refl)
+by_sign true l n h = signed_sum (to_z w32 n) (to_z w32 l) (l % 2 ^ 31) (l - l % 2 ^ 31) (word_sides l h (ltb l (2 ^ 31)) refl)
 by_sign false l n h =
     let e : l % 2 ^ 31 + (l - l % 2 ^ 31) ≡ l = omega arith in
     ap pos (sym (mul-add n (l % 2 ^ 31) (l - l % 2 ^ 31)) ∙ ap (λ (k : ℕ). n * k) e ∙ mul_comm n l)
 
-plain-before : (signed : Bool) (s : ℕ) (z : ℤ) → s < 31 → cond (signed && eqb s 31) (neg_ℤ z) z ≡ z
-plain-before true s z h = let e : eqb s 31 ≡ false = grind (arith, nat_tests) in rw e
-plain-before false s z h = refl
+plain_before : (signed : Bool) (s : ℕ) (z : ℤ) → s < 31 → cond (signed && eqb s 31) (neg_ℤ z) z ≡ z
+plain_before true s z h = let e : eqb s 31 ≡ false = grind (arith, nat_tests) in rw e
+plain_before false s z h = refl
 
-pub product-is-exact : ProductIsExact
-product-is-exact f h =
-    add_and_shift 31 (read f.signed f.second) (addend f) f.first (λ s lt. plain-before f.signed s (read f.signed f.second) lt) h ∙ by_sign f.signed f.first f.second h
+pub product_is_exact : ProductIsExact
+product_is_exact f h =
+    add_and_shift 31 (read f.signed f.second) (addend f) f.first (λ s lt. plain_before f.signed s (read f.signed f.second) lt) h ∙ by_sign f.signed f.first f.second h
 
 low_step : (n : ℤ) (p : Pair) → p.low < 2 ^ 32 → (add_shift 32 n p).low < 2 ^ 32
 low_step n p h = omega (arith, half_is (total n p))
@@ -48,14 +48,14 @@ low_fits f zero h = h
 low_fits f (suc k) h = low_step (addend f k) (after (mul_step f) (mul_start f) k) (low_fits f k h)
 
 -- the words of h × 2^32 + l
-value-words : (h : ℤ) (l : ℕ) → l < 2 ^ 32 → (word (h *ℤ pos (2 ^ 32) +ℤ pos l) ≡ l) × (shr_z (h *ℤ pos (2 ^ 32) +ℤ pos l) (2 ^ 32) ≡ h)
-value-words (pos a) l lt = (omega arith, ap pos (omega arith))
-value-words (negsuc a) l lt =
+value_words : (h : ℤ) (l : ℕ) → l < 2 ^ 32 → (word (h *ℤ pos (2 ^ 32) +ℤ pos l) ≡ l) × (shr_z (h *ℤ pos (2 ^ 32) +ℤ pos l) (2 ^ 32) ≡ h)
+value_words (pos a) l lt = (omega arith, ap pos (omega arith))
+value_words (negsuc a) l lt =
     let e : negsuc a *ℤ pos (2 ^ 32) +ℤ pos l ≡ negsuc (a * 2 ^ 32 + (2 ^ 32 - 1 - l)) = omega (arith, ints) in
     rw e (omega arith, ap negsuc (omega arith))
 
-answer-words : (f : Factors) (p : Pair) → p.low < 2 ^ 32 → mul_answer f p ≡ words_of (value 32 p)
-answer-words f p h = let w = value-words p.high p.low h in rw (w.0, w.1)
+answer_words : (f : Factors) (p : Pair) → p.low < 2 ^ 32 → mul_answer f p ≡ words_of (value 32 p)
+answer_words f p h = let w = value_words p.high p.low h in rw (w.0, w.1)
 
-pub product-words : ProductWords
-product-words f h = answer-words f (after (mul_step f) (mul_start f) 32) (low_fits f 32 h) ∙ ap words_of (product-is-exact f h)
+pub product_words : ProductWords
+product_words f h = answer_words f (after (mul_step f) (mul_start f) 32) (low_fits f 32 h) ∙ ap words_of (product_is_exact f h)

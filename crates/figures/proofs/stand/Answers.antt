@@ -1,6 +1,6 @@
 use mathlib.Core.Path.{refl}
 use Rattle.unit.specs.After.{after}
-use Rattle.machine.proofs.Finishing.{rise-lost, no_step, store-first}
+use Rattle.machine.proofs.Finishing.{rise_lost, no_step, store_first}
 use Rattle.risc5.specs.Set.{card, pace}
 use Rattle.figures.proofs.stand.Goals as goal
 
@@ -9,7 +9,7 @@ unfolding after
 returns c =
     record {
       wraps = refl;
-      wraps-carries = refl;
+      wraps_carries = refl;
       wraps_overflows = refl;
       tops_carries = refl;
       tops_overflows = refl;
@@ -19,7 +19,7 @@ returns c =
       squared_unsigned = refl;
       by_zero = refl;
       big_endian = refl;
-      rise = λ M. rise-lost M card pace;
-      store = λ M. store-first M card;
+      rise = λ M. rise_lost M card pace;
+      store = λ M. store_first M card;
       stall = λ M. no_step M card pace;
     }

@@ -2,7 +2,7 @@ use Rattle.std.proofs.Common.{◌≡◌, ℕ, ◌≤◌, length, drop, sym, ap, 
 use Rattle.machine.specs.State.{State}
 use Rattle.cpu.specs.Cores.{state}
 use Rattle.history.specs.Asked.{wrote_by}
-use Rattle.history.proofs.Records.{wrote-room, wrote-behind}
+use Rattle.history.proofs.Records.{wrote_room, wrote_behind}
 use Rattle.history.proofs.ask.Goals as goal
 
 pub returns-in-ByLeap : goal.returns-in-ByLeap
@@ -15,11 +15,11 @@ returns-in-ByLeap g c =
     let e : wrote_by c.leap.result ≡ _ = ap wrote_by a in
     record {
       way = sym c.in-ByLeap.is;
-      room = subst (λ (n : ℕ). n ≤ length t) (sym e) (wrote-room m (length t) ls s);
+      room = subst (λ (n : ℕ). n ≤ length t) (sym e) (wrote_room m (length t) ls s);
       trace =
           ap (λ (n : ℕ). drop n c.leap.new.trace) e
           ∙ ap (drop _) c.leap.ensures.trace
-          ∙ wrote-behind m (length t) ls s t
+          ∙ wrote_behind m (length t) ls s t
           ∙ ap (λ (n : ℕ). drop n t) (sym e);
       did = c.leap.ensures.step;
     }

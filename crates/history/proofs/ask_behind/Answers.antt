@@ -6,7 +6,7 @@ use Rattle.machine.specs.Histories.{Did}
 use Rattle.risc5.specs.Set.{card, pace}
 use Rattle.cpu.specs.Cores.{state}
 use Rattle.history.specs.Asked.{wrote, call_of}
-use Rattle.history.proofs.Parts.{rest-size, replaced-front, replaced-rest, replaced-behind}
+use Rattle.history.proofs.Parts.{rest_size, replaced_front, replaced_rest, replaced_behind}
 use Rattle.history.proofs.ask_behind.Goals as goal
 
 pub returns : goal.returns
@@ -23,10 +23,10 @@ returns g c =
     let o = c.ask.ensures in
     record {
       way = o.way;
-      room = omega (arith, o.room, rest-size a xs ys le size);
-      before = replaced-front a xs ys le size;
-      behind = replaced-behind a xs ys le size (wrote r) o.trace;
+      room = omega (arith, o.room, rest_size a xs ys le size);
+      before = replaced_front a xs ys le size;
+      behind = replaced_behind a xs ys le size (wrote r) o.trace;
       did =
-          subst (λ (n : ℕ). Did m card pace s (call_of c.args.lines.now n (drop a (put_mid a (length xs - a) xs ys)) r) e) (rest-size a xs ys le size)
-          (subst (λ (t : List Record). Did m card pace s (call_of c.args.lines.now (length (take (length xs - a) (drop a xs))) t r) e) (sym (replaced-rest a xs ys le size)) o.did);
+          subst (λ (n : ℕ). Did m card pace s (call_of c.args.lines.now n (drop a (put_mid a (length xs - a) xs ys)) r) e) (rest_size a xs ys le size)
+          (subst (λ (t : List Record). Did m card pace s (call_of c.args.lines.now (length (take (length xs - a) (drop a xs))) t r) e) (sym (replaced_rest a xs ys le size)) o.did);
     }

@@ -6,7 +6,7 @@ use Rattle.risc5.specs.Set.{card, pace}
 use Rattle.cpu.specs.Cores.{state}
 use Rattle.history.specs.Asked.{part_of, wrote, call_of, calls_of}
 use Rattle.history.specs.Kept.{Kept, start}
-use Rattle.history.proofs.Playing.{after_more, wrote_on, given-on, left-on, calls_on}
+use Rattle.history.proofs.Playing.{after_more, wrote_on, given_on, left_on, calls_on}
 use Rattle.history.proofs.play.Goals as goal
 
 pub loop-met-init : goal.loop-met-init
@@ -49,9 +49,9 @@ loop-met-preserved g c =
       omega (arith, h, c.loop-met.auto.answers),
       omega (arith, o.room),
       wrote_on xs i x h k inv.3 ∙ ap (λ (j : ℕ). k + j) (sym n),
-      left-on xs i x h c.args.answers.now inv.4,
+      left_on xs i x h c.args.answers.now inv.4,
       subst (λ (j : ℕ). drop (k + j) u ≡ drop (k + j) t0) (sym n) behind,
-      given-on xs i x h qs q p inv.6 o.way,
+      given_on xs i x h qs q p inv.6 o.way,
       subst (λ (j : ℕ). After m card pace s0 (calls_of (length t0) ls (take (i + 1) qs) (take (i + 1) (set xs i x)) (take (k + j) u)) e) (sym n)
           (subst (λ (r : List Call). After m card pace s0 r e) (sym calls) (after_more inv.7 did)),
     )

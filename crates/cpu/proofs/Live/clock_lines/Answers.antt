@@ -4,7 +4,7 @@ use Rattle.machine.specs.State.{State}
 use Rattle.machine.specs.Clock.{clock, run, ends, counted, finished}
 use Rattle.risc5.specs.Set.{card, pace}
 use Rattle.cpu.specs.Cores.{state}
-use Rattle.cpu.proofs.Counting.{run_more, finished-more, stalls-more, byte_one, byte_most}
+use Rattle.cpu.proofs.Counting.{run_more, finished_more, stalls_more, byte_one, byte_most}
 use Rattle.cpu.proofs.Live.clock_lines.Goals as goal
 
 pub loop-line-init : goal.loop-line-init
@@ -25,8 +25,8 @@ loop-line-preserved g c =
       omega (arith, inv.0, byte_most c.clock_line.result),
       omega (arith, inv.1, byte_most c.is_stalled.result),
       e ∙ ap (clock m card pace x) inv.2 ∙ sym (run_more m xs i h s),
-      ap₂ ◌+◌ inv.3 (byte_one c.clock_line.result ∙ ap one (c.clock_line.ensures.answer ∙ ap (ends m card pace x) inv.2)) ∙ sym (finished-more m xs i h s),
-      ap₂ ◌+◌ inv.4 (byte_one c.is_stalled.result ∙ ap one c.is_stalled.ensures) ∙ sym (stalls-more m xs i h),
+      ap₂ ◌+◌ inv.3 (byte_one c.clock_line.result ∙ ap one (c.clock_line.ensures.answer ∙ ap (ends m card pace x) inv.2)) ∙ sym (finished_more m xs i h s),
+      ap₂ ◌+◌ inv.4 (byte_one c.is_stalled.result ∙ ap one c.is_stalled.ensures) ∙ sym (stalls_more m xs i h),
     )
 
 pub returns : goal.returns

@@ -3,14 +3,14 @@ use Rattle.machine.specs.Lines.{noted}
 use Rattle.machine.specs.Shares.{cut, cut_after}
 use Rattle.cpu.specs.Measures.{measured, Well}
 use Rattle.machine.proofs.Cuts.{cut_good}
-use Rattle.cpu.proofs.Scans.{past, past-none, scan_wait, scan_work, scan_last, scan_none, noted_more, ahead-work, ahead-all, ahead_some, measured-last, measured_well}
+use Rattle.cpu.proofs.Scans.{past, past_none, scan_wait, scan_work, scan_last, scan_none, noted_more, ahead_work, ahead_all, ahead_some, measured_last, measured_well}
 use Rattle.cpu.proofs.leaping.share_of.Goals as goal
 use Rattle.cpu.proofs.leaping.share_of.Goals.{then-is_stalled+then-ahead-i, then-is_stalled+else-ahead-i, else-is_stalled+else-more-eq0}
 
 pub loop-i-init : goal.loop-i-init
 loop-i-init c =
     let e : pred c.args.count ≡ c.args.count - 1 = omega arith in
-    (past-none _ ∙ ap (λ (k : ℕ). past [] (cut_after k c.args.lines.now)) e, refl, refl, omega arith)
+    (past_none _ ∙ ap (λ (k : ℕ). past [] (cut_after k c.args.lines.now)) e, refl, refl, omega arith)
 
 pub overflow_cast-result-then-more-eq0 : goal.overflow_cast-result-then-more-eq0
 overflow_cast-result-then-more-eq0 c = omega (arith, c.loop-i.invariant.3, c.loop-i-test.true, c.requires.1)
@@ -20,7 +20,7 @@ returns-then-more-eq0 c =
     let ls = c.args.lines.now in
     let i = c.loop-i.i in
     let z = scan_last (cut c.args.count ls) ls i c.loop-i.more c.loop-i.invariant.0 c.loop-i-test.true (sym c.if-is_stalled.ensures) c.if-more-eq0.true in
-    let r = measured-last c.args.ticks ls i c.loop-i.seen c.loop-i.ahead _ c.loop-i-test.true z c.loop-i.invariant.1 c.loop-i.invariant.2 in
+    let r = measured_last c.args.ticks ls i c.loop-i.seen c.loop-i.ahead _ c.loop-i-test.true z c.loop-i.invariant.1 c.loop-i.invariant.2 in
     record { answer = r; well = subst (Well ls c.args.count) (sym r) (measured_well c.args.ticks c.args.count ls _ (cut_good (pred c.args.count) ls) c.requires.0) }
 
 pub loop-i-preserved : goal.loop-i-preserved
@@ -38,7 +38,7 @@ loop-i-preserved c =
           let e = sym c.is_stalled.ensures ∙ w.if-is_stalled.true in (
             on _ (scan_wait z ls i c.loop-i.more c.loop-i.invariant.0 h e) w.more-is,
             t,
-            w.ahead-is ∙ ahead-all ls i c.loop-i.ahead h c.loop-i.invariant.2 e w.if-ahead-i.true,
+            w.ahead-is ∙ ahead_all ls i c.loop-i.ahead h c.loop-i.invariant.2 e w.if-ahead-i.true,
             omega (arith, w.ahead-is),
           )
       | then-is_stalled+else-ahead-i w ↦
@@ -53,7 +53,7 @@ loop-i-preserved c =
           let p : 0 < c.loop-i.more = omega (arith, w.if-more-eq0.false) in (
             on _ (scan_work z ls i c.loop-i.more c.loop-i.invariant.0 h e p) w.more-is,
             t,
-            w.ahead-is ∙ ahead-work ls i c.loop-i.ahead h c.loop-i.invariant.2 e,
+            w.ahead-is ∙ ahead_work ls i c.loop-i.ahead h c.loop-i.invariant.2 e,
             omega (arith, w.ahead-is, c.loop-i.invariant.3),
           )
     ]

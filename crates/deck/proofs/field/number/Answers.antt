@@ -3,7 +3,7 @@ use Rattle.std.proofs.lemmas.List.Sums.{fold_more}
 use Rattle.std.proofs.lemmas.List.{take_all}
 use Rattle.deck.specs.Field.{after, said}
 use Rattle.deck.specs.declared.field.Seen.TheVariants.{Blanks}
-use Rattle.deck.proofs.Scans.{small-more}
+use Rattle.deck.proofs.Scans.{small_more}
 use Rattle.deck.proofs.field.number.Goals as goal
 
 pub loop-byte-preserved : goal.loop-byte-preserved
@@ -11,7 +11,7 @@ loop-byte-preserved c =
     let i = c.loop-byte.byte-index in
     let xs = c.args.columns.now in
     let more = fold_more after Blanks xs i 0 c.loop-byte-test.true in
-    let small = small-more c.loop-byte.seen (get_or xs i 0) i c.loop-byte.invariant.1 in
+    let small = small_more c.loop-byte.seen (get_or xs i 0) i c.loop-byte.invariant.1 in
     (cc, rw c.next-seen.ensures small)
 
 pub returns : goal.returns

@@ -1,5 +1,5 @@
 use Rattle.std.proofs.Common.{◌≡◌, ◌%◌, sym, refl, ap, ◌∙◌}
-use Rattle.panel.proofs.Panels.{held, same_held, own_shown, below-shown, own_read, below-read}
+use Rattle.panel.proofs.Panels.{held, same_held, own_shown, below_shown, own_read, below_read}
 use Rattle.panel.proofs.PanelBus.read.Goals as goal
 
 pub returns-then-inside : goal.returns-then-inside
@@ -26,6 +26,6 @@ returns-else-inside g c =
     let a = c.args.at % 4194304 in
     let e = sym c.if-inside.ensures in
     record {
-      word = c.read.ensures.word ∙ below-shown m d.age d.taken d.count d.bytes q a d.whole e;
-      after = ap (held d.age d.taken d.count d.bytes) c.read.ensures.after ∙ below-read m d.age d.taken d.count d.bytes q a d.whole e;
+      word = c.read.ensures.word ∙ below_shown m d.age d.taken d.count d.bytes q a d.whole e;
+      after = ap (held d.age d.taken d.count d.bytes) c.read.ensures.after ∙ below_read m d.age d.taken d.count d.bytes q a d.whole e;
     }

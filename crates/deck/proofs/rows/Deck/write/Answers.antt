@@ -4,7 +4,7 @@ use Rattle.deck.specs.Rows.{row_count, row_says}
 use Rattle.deck.specs.Decks.{lines_of}
 use Rattle.deck.specs.Loaded.{word_of, register_of, placed}
 use Rattle.deck.proofs.Counting.{goes, room_within}
-use Rattle.deck.proofs.Storing.{has_room, has_deed, words_more, registers-more, lines-written}
+use Rattle.deck.proofs.Storing.{has_room, has_deed, words_more, registers_more, lines_written}
 use Rattle.deck.proofs.rows.Deck.write.Goals as goal
 use Rattle.deck.proofs.rows.Deck.write.Goals.{in-Ok, in_default}
 
@@ -43,10 +43,10 @@ loop-row-preserved c =
                 ∙ (ap (λ (xs : List ℕ). placed xs (word_of d)) c.loop-row.invariant.1 ∙ sym (words_more bs w m k u v d h says room c.args.words.now))),
             e.registers-is
                 ∙ (e.apply-used.ensures.registers
-                ∙ (ap (λ (xs : List ℕ). placed xs (register_of d)) c.loop-row.invariant.2 ∙ sym (registers-more bs w m k u v d h says room c.args.registers.now))),
+                ∙ (ap (λ (xs : List ℕ). placed xs (register_of d)) c.loop-row.invariant.2 ∙ sym (registers_more bs w m k u v d h says room c.args.registers.now))),
             e.lines-is
                 ∙ (e.apply-used.ensures.lines
-                ∙ (ap (λ (xs : List ℕ). paste xs u (lines_of d) (length (lines_of d))) c.loop-row.invariant.3 ∙ sym (lines-written bs w m k u v d h says room c.args.lines.now))),
+                ∙ (ap (λ (xs : List ℕ). paste xs u (lines_of d) (length (lines_of d))) c.loop-row.invariant.3 ∙ sym (lines_written bs w m k u v d h says room c.args.lines.now))),
           )
       | in_default e ↦
           absurd (has_deed bs w m (row_count bs) k u _ c.requires.1 below h (e.in_default.ensures.answer ∙ ap (λ (n : ℕ). row_says bs n k) c.loop-row.auto.words))
