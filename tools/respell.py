@@ -3,8 +3,8 @@
 
     python3 tools/respell.py [FOLDER]
 
-It was run once, at the top, and is kept so that it can be run again on an older state of the repository, to compare. Functions of src/ keep their
-names; a dash stays where it joins two names, as in over-over.
+It is kept so that it can be run again on an older state of the repository, to compare: today's tree has been through it, and is not to be turned again.
+Functions of src/ keep their names; a dash stays where it joins two names, as in over-over.
 """
 import pathlib
 import re
