@@ -1,5 +1,5 @@
 -- What instruction words do to the registers.
-use Rattle.std.specs.Prelude.{cond, ◌&&◌, ℕ, ◌%◌, ◌^◌, get_or, set}
+use Rattle.std.specs.Prelude.{cond, ◌&&◌, ℕ, ◌%◌, ◌^◌, slice_index, slice_set}
 use Rattle.isa.specs.declared.Sent.{Sent}
 use Rattle.isa.specs.declared.Operation.{Operation}
 use Rattle.isa.specs.Word.{q, v, a, b, c, constant}
@@ -14,11 +14,11 @@ use Rattle.machine.specs.declared.Registers.{Registers}
 
 -- Register i. It is read modulo 2^32, which changes no word.
 abbrev pub at : Registers → ℕ → ℕ
-at g i = get_or g.r (i % 16) 0 % 2 ^ 32
+at g i = slice_index g.r (i % 16) % 2 ^ 32
 
 -- A register write sets N and Z.
 abbrev pub put : Registers → ℕ → ℕ → Registers
-put g i x = record { r = set g.r (i % 16) x; h = g.h; flags = written x g.flags }
+put g i x = record { r = slice_set g.r (i % 16) x; h = g.h; flags = written x g.flags }
 
 -- the operand n: a constant if q is 1, else R.c
 unfoldable pub operand : ℕ → Registers → ℕ
@@ -31,7 +31,7 @@ inputs w g = record { b = at g (b w); n = operand w g; h = g.h; flags = g.flags 
 
 unfoldable pub operated : Operation → ℕ → Registers → Registers
 operated op w g =
-    let o : Outcome = outcome op w (inputs w g) in record { r = set g.r (a w % 16) o.value; h = g.h; flags = o.flags }
+    let o : Outcome = outcome op w (inputs w g) in record { r = slice_set g.r (a w % 16) o.value; h = g.h; flags = o.flags }
 
 -- a step unit's low word goes to R.a, its high word to H
 unfoldable pub given : ℕ → Registers → Words → Registers

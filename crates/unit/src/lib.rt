@@ -58,7 +58,7 @@ pub trait StepUnit {
 
     ghost answer: { Self.Operands → Self.Pair → Self.Answer };
 
-    /// `STEPS`, for code over any unit: a clause cannot name the constant.
+    /// `STEPS`, for code over any unit; clauses speak of it as `count`.
     fn counted() -> u16
         ensures { result ≡ count };
 
