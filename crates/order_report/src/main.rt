@@ -1,41 +1,36 @@
 //! Reads order lines from standard input and tells, step by step, what the card makes of each quantity field.
 #![tactic(auto)]
 
-use anyhow::anyhow;
 use card::STANDARD_WORDS;
-use order::{ByteStore, Field, Finding, line, receive};
+use order::{ByteStore, Field, Finding, receive};
 use std::io;
 use std::process::ExitCode;
 
-fn mark(on: bool) -> char {
-    if on { '1' } else { '0' }
-}
-
-fn tell_store(rt: &HostRuntime, address: u32, byte: u8) -> io::Result<()> {
+fn tell_store(rt: &impl Print, address: u32, byte: u8) -> io::Result<()> {
     let ByteStore { at, word, marks } = ByteStore::new(address, byte);
-    let b0 = mark(marks.b0);
-    let b1 = mark(marks.b1);
-    let b2 = mark(marks.b2);
-    let b3 = mark(marks.b3);
-    println!(rt;
-        "   byte address {address}: byte {byte:>3} goes as {word:08X}H to word address {at}, marks {b0}{b1}{b2}{b3}"
-    )
+    print!(rt;
+        "   byte address {address}: byte {byte:>3} goes as {word:08X}H to word address {at}, marks "
+    )?;
+    for mark in [marks.b0, marks.b1, marks.b2, marks.b3] {
+        print!(rt; "{mark}", mark = u8::from(mark))?;
+    }
+    println!(rt)
 }
 
-fn tell_stores(rt: &HostRuntime, field: Field) -> io::Result<()> {
+fn tell_stores(rt: &impl Print, field: Field) -> io::Result<()> {
     println!(rt;
-        "2. The card has 4096 words of memory, the boot ROM above them and the panel on top."
+        "2. The card has {STANDARD_WORDS} words of memory, the boot ROM above them and the panel on top."
     )?;
     println!(rt;
         "   Each byte is stored under its own mark alone (marks are listed byte 0 first):"
     )?;
-    tell_store(rt, 0, field.b0)?;
-    tell_store(rt, 1, field.b1)?;
-    tell_store(rt, 2, field.b2)?;
-    tell_store(rt, 3, field.b3)
+    for (address, byte) in [field.b0, field.b1, field.b2, field.b3].iter().enumerate() {
+        tell_store(rt, address as u32, *byte)?;
+    }
+    Ok(())
 }
 
-fn tell_loads(rt: &HostRuntime, finding: Finding) -> io::Result<()> {
+fn tell_loads(rt: &impl Print, finding: Finding) -> io::Result<()> {
     let Finding { word, bytes } = finding;
     let Field { b0, b1, b2, b3 } = bytes;
     println!(rt;
@@ -46,14 +41,14 @@ fn tell_loads(rt: &HostRuntime, finding: Finding) -> io::Result<()> {
     println!(rt; "      {b0} + {b1} x 256 + {b2} x 65536 + {b3} x 16777216 = {word}.")
 }
 
-fn tell_sent(rt: &HostRuntime, field: Field) -> io::Result<()> {
+fn tell_sent(rt: &impl Print, field: Field) -> io::Result<()> {
     let sent = field.sent();
     let Field { b0, b1, b2, b3 } = field;
     println!(rt; "   As sent: the first byte is the highest,")?;
     println!(rt; "      {b0} x 16777216 + {b1} x 65536 + {b2} x 256 + {b3} = {sent}.")
 }
 
-fn tell_result(rt: &HostRuntime, sent: u32, loaded: u32) -> io::Result<()> {
+fn tell_result(rt: &impl Print, sent: u32, loaded: u32) -> io::Result<()> {
     println!(rt; "Quantity as sent: {sent}")?;
     println!(rt; "Quantity as the card loads the word: {loaded}")?;
     if sent == loaded {
@@ -65,7 +60,7 @@ fn tell_result(rt: &HostRuntime, sent: u32, loaded: u32) -> io::Result<()> {
     }
 }
 
-fn tell(rt: &HostRuntime, text: &str, field: Field) -> anyhow::Result<()> {
+fn tell(rt: &(impl Print + AllocGlobal), text: &str, field: Field) -> anyhow::Result<()> {
     let Field { b0, b1, b2, b3 } = field;
     println!(rt; "Order line: {text}")?;
     println!(rt;
@@ -79,38 +74,7 @@ fn tell(rt: &HostRuntime, text: &str, field: Field) -> anyhow::Result<()> {
     Ok(())
 }
 
-// What is wrong with a line that has no quantity field at its end.
-fn no_field(number: u64) -> anyhow::Result<()> {
-    Err(anyhow!(
-        "line {number} does not end with a quantity field as 00 00 01 00, four bytes in hexadecimal"
-    ))
-}
-
-fn run(rt: &HostRuntime) -> anyhow::Result<()> {
-    let mut number = 0u64;
-    for text in rt.lines(rt.alloc()) {
-        let text = text?;
-        number = number.saturating_add(1);
-        let Some(field) = line::field(text.as_bytes()) else {
-            return no_field(number);
-        };
-        if number > 1 {
-            println!(rt)?;
-        }
-        tell(rt, text.as_str(), field)?;
-    }
-    if number == 0 {
-        return Err(anyhow!("there is no order line on standard input"));
-    }
-    Ok(())
-}
-
 fn main(rt: HostRuntime) -> ExitCode {
-    match run(&rt) {
-        Ok(()) => ExitCode::SUCCESS,
-        Err(error) => {
-            let _told = eprintln!(rt; "order_report: {error}");
-            ExitCode::FAILURE
-        }
-    }
+    let outcome = order_lines::each(&rt, |text, field| tell(&rt, text, field));
+    ending::of(&rt, "order_report", outcome)
 }
