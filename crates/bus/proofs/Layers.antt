@@ -1,6 +1,6 @@
 -- One layer over another.
 use Rattle.std.proofs.Common.{◌≡◌, ℕ, ◌+◌, ◌≤◌, List, ◌++◌, length, take, drop, sym, ap, ◌∙◌, ⊎_elim, append_assoc, arith, length-drop, take-append-drop, length-take-le, drop-drop}
-use lib.Seq.{take-append-add}
+use Rattle.std.proofs.Math.Seq.{take-append-add}
 use Rattle.std.proofs.lemmas.Bool.{cases_lt}
 use Rattle.bus.specs.Over.{over, over_long, over_short}
 

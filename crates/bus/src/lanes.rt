@@ -3,6 +3,7 @@ ghost use Rattle.std.specs.Prelude.{◌≡◌, ◌%◌};
 ghost use Rattle.bus.specs.Lanes.{in_lane, placed, merged};
 
 use crate::Marks;
+use std::array;
 
 /// The byte of a word that the low two bits of a byte address name.
 pub fn byte_in(word: u32, address: u32) -> u8
@@ -25,19 +26,8 @@ pub fn word_with(byte: u8, address: u32) -> u32
 pub fn merge(old: u32, new: u32, marks: Marks) -> u32
     ensures { result ≡ merged old new marks }
 {
-    let mut bytes = old.to_le_bytes();
-    let put = new.to_le_bytes();
-    if marks.b0 {
-        bytes[0] = put[0];
-    }
-    if marks.b1 {
-        bytes[1] = put[1];
-    }
-    if marks.b2 {
-        bytes[2] = put[2];
-    }
-    if marks.b3 {
-        bytes[3] = put[3];
-    }
-    u32::from_le_bytes(bytes)
+    let marked = <[bool; 4]>::from(marks);
+    let old = old.to_le_bytes();
+    let new = new.to_le_bytes();
+    u32::from_le_bytes(array::from_fn(|lane| if marked[lane] { new[lane] } else { old[lane] }))
 }

@@ -2,10 +2,13 @@
 #![tactic(auto)]
 
 pub mod lanes;
+pub mod table;
 
-ghost use Rattle.std.specs.Prelude.{◌≡◌, ℕ, ◌%◌, ◌^◌, List};
+ghost use Rattle.std.specs.Prelude.{◌≡◌, ℕ, ◌%◌, ◌^◌, List, [], ◌∷◌};
 ghost use Rattle.bus.specs.Lanes.{all_marked, only_marked};
 ghost use Rattle.bus.specs.Meaning.{Meaning};
+
+use std::array;
 
 /// Which bytes of a word a write replaces; byte 0 is the lowest.
 #[derive(Clone, Copy, PartialEq, Eq, Debug)]
@@ -16,30 +19,39 @@ pub struct Marks {
     pub b3: bool,
 }
 
+// The mark of each lane, lane 0 first.
+impl From<Marks> for [bool; 4] {
+    ghost from_gives = { λ marks flags. flags ≡ marks.b0 ∷ marks.b1 ∷ marks.b2 ∷ marks.b3 ∷ [] };
+
+    fn from(marks: Marks) -> [bool; 4] {
+        [marks.b0, marks.b1, marks.b2, marks.b3]
+    }
+}
+
+impl From<[bool; 4]> for Marks {
+    ghost use Rattle.bus.specs.Lanes.{marks_of};
+
+    ghost from_gives = { λ flags marks. marks ≡ marks_of flags };
+
+    fn from(flags: [bool; 4]) -> Marks {
+        let [b0, b1, b2, b3] = flags;
+        Marks { b0, b1, b2, b3 }
+    }
+}
+
 impl Marks {
     /// All four bytes.
     pub fn all() -> Marks
         ensures { result ≡ all_marked }
     {
-        Marks {
-            b0: true,
-            b1: true,
-            b2: true,
-            b3: true,
-        }
+        Marks::from([true; 4])
     }
 
     /// One byte alone: the one that the low two bits of a byte address name.
     pub fn only(address: u32) -> Marks
         ensures { result ≡ only_marked (address % 4) }
     {
-        let lane = address % 4;
-        Marks {
-            b0: lane == 0,
-            b1: lane == 1,
-            b2: lane == 2,
-            b3: lane == 3,
-        }
+        Marks::from(array::from_fn(|lane| lane == (address % 4) as usize))
     }
 }
 

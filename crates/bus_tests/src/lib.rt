@@ -9,3 +9,15 @@ mod panels;
 mod roms;
 #[cfg(test)]
 mod stacks;
+
+#[cfg(test)]
+use memory::Memory;
+#[cfg(test)]
+use std::alloc::{AllocError, Global};
+
+// A memory of so many words, each 7.
+#[cfg(test)]
+fn sevens(alloc: Global, count: usize) -> Result<Memory, AllocError> {
+    let words = vec![in alloc; 7; count]?;
+    Ok(Memory::new(words))
+}

@@ -1,18 +1,19 @@
+use crate::sevens;
 use bus::{Bus, Marks};
 use memory::Memory;
 use panel::Panel;
 use refusal::Refusal;
 use std::alloc::{AllocError, Global};
+use std::array;
 use std::test::Fail;
 
 const BYTE: u32 = 0x3F_FFF2;
 
 const READY: u32 = 0x3F_FFF3;
 
-// Every word of a memory below the panel is 7.
-fn over_sevens(heap: Global, feed: &[u8]) -> Result<Panel<Memory>, AllocError> {
-    let words = vec![in heap; 7; 16]?;
-    Ok(Panel::new(Memory::new(words), feed))
+// A panel over 16 words of 7.
+fn over_sevens(alloc: Global, feed: &[u8]) -> Result<Panel<Memory>, AllocError> {
+    Ok(Panel::new(sevens(alloc, 16)?, feed))
 }
 
 fn pass_singly(panel: &mut Panel<Memory>, clocks: u32) {
@@ -63,10 +64,7 @@ fn in_one_call_or_in_many(rt: HostRuntime) -> Result<(), Fail> {
 
 #[test]
 fn a_whole_feed_has_arrived_at_833920_clocks(rt: HostRuntime) -> Result<(), Fail> {
-    let mut feed = [0; 65];
-    for (k, byte) in feed.iter_mut().enumerate() {
-        *byte = (k % 256) as u8;
-    }
+    let feed: [u8; 65] = array::from_fn(|k| k as u8);
     let mut panel = over_sevens(rt.alloc(), &feed)?;
     for _ in 0..12u8 {
         panel.pass(65_535);

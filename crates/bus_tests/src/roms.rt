@@ -1,3 +1,4 @@
+use crate::sevens;
 use bus::{Bus, Marks};
 use memory::Memory;
 use refusal::Refusal;
@@ -5,10 +6,9 @@ use rom::Rom;
 use std::alloc::{AllocError, Global};
 use std::test::Fail;
 
-// Every word of a memory below the ROM is 7.
-fn over_sevens(heap: Global, image: &[u32]) -> Result<Rom<Memory>, AllocError> {
-    let words = vec![in heap; 7; 16]?;
-    Ok(Rom::new(Memory::new(words), image))
+// A ROM over 16 words of 7.
+fn over_sevens(alloc: Global, image: &[u32]) -> Result<Rom<Memory>, AllocError> {
+    Ok(Rom::new(sevens(alloc, 16)?, image))
 }
 
 #[test]
@@ -65,8 +65,7 @@ fn reads_and_writes_at_the_rom_do_nothing(rt: HostRuntime) -> Result<(), Fail> {
 
 #[test]
 fn the_standard_rom_branches_to_0(rt: HostRuntime) -> Result<(), Fail> {
-    let words = vec![in rt.alloc(); 7; 1]?;
-    let rom = Rom::boot(Memory::new(words));
+    let rom = Rom::boot(sevens(rt.alloc(), 1)?);
     assert_eq!(rt; rom.fetch(0x3F_F800), 0xE700_07FF);
     for k in 1..512u32 {
         assert_eq!(rt; rom.fetch(0x3F_F800 + k), 0);

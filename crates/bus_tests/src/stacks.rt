@@ -1,5 +1,5 @@
 use bus::{Bus, Marks};
-use order::{Field, line, receive};
+use order::{Field, line, receive, store_field_at};
 use refusal::Refusal;
 use std::test::Fail;
 
@@ -41,17 +41,25 @@ fn of_two_faults_the_lower_number_is_told(rt: HostRuntime) {
 
 #[test]
 fn a_quantity_of_256_is_loaded_as_65536(rt: HostRuntime) -> Result<(), Fail> {
-    let field = Field {
-        b0: 0,
-        b1: 0,
-        b2: 1,
-        b3: 0,
-    };
+    let field = Field::from([0, 0, 1, 0]);
     assert_eq!(rt; line::field(b"BUY 00 00 01 00"), Some(field));
     assert_eq!(rt; field.sent(), 256);
     let finding = receive(rt.alloc(), field)?;
     assert_eq!(rt; finding.word, 65_536);
     assert_eq!(rt; finding.bytes, field);
+    Ok(())
+}
+
+#[test]
+fn a_field_is_stored_at_any_byte_address(rt: HostRuntime) -> Result<(), Fail> {
+    let mut card = card::standard(rt.alloc())?;
+    let field = Field::from([1, 2, 3, 4]);
+    store_field_at(&mut card, 256, field);
+    assert_eq!(rt; card.fetch(64), 0x0403_0201);
+    // The last three bytes go on at address 0; the first is the panel's, where a write does nothing.
+    store_field_at(&mut card, 4_294_967_295, field);
+    assert_eq!(rt; card.fetch(0), 0x0004_0302);
+    assert_eq!(rt; <[u8; 4]>::from(field), [1, 2, 3, 4]);
     Ok(())
 }
 
@@ -62,11 +70,6 @@ fn a_line_without_a_field_is_not_read(rt: HostRuntime) {
     assert_eq!(rt; line::field(b"00-00 01 00"), None);
     assert_eq!(rt; line::field(b"00 00 01 0G"), None);
     assert_eq!(rt; line::field(b"00 00 01 00 "), None);
-    let field = Field {
-        b0: 0xAF,
-        b1: 0xAF,
-        b2: 0x09,
-        b3: 0xFF,
-    };
+    let field = Field::from([0xAF, 0xAF, 0x09, 0xFF]);
     assert_eq!(rt; line::field(b"af AF 09 fF"), Some(field));
 }

@@ -10,10 +10,11 @@ use Rattle.rom.specs.Table.{in_rom, rom_meaning, rom_read, rom_write}
 use Rattle.panel.specs.Cells.{on_panel}
 use Rattle.rom.proofs.Roms.{boot_shown}
 use Rattle.panel.proofs.Handing.{table_long}
-use Rattle.panel.proofs.Panels.{held, below_shown}
+use Rattle.panel.proofs.Panels.{below_shown}
 use Rattle.memory.specs.declared.Memory.{Memory}
 use Rattle.rom.specs.declared.Rom.{Rom}
 use Rattle.panel.specs.declared.Panel.{Panel}
+use Rattle.panel.specs.Numbers.{numbers}
 use Rattle.card.specs.Stack.{card_meaning, card_contents, new_card, MemoryBelow}
 
 off_panel : (at : ℕ) → at < 0x3FFFF0 → on_panel at ≡ false
@@ -44,17 +45,13 @@ new_shows_boot h words feed is k lt =
     ∙ boot_shown memory_meaning boot_image (take 262144 words) refl k lt
 
 -- the contents by its layers
-pub stacked : (s : Panel (Rom Memory)) (r : Rom Memory) (y : Memory) (count : ℕ) (bytes table words : List ℕ) →
-    s.feed.age ≡ 0 → s.feed.taken ≡ 0 → s.feed.count ≡ count → s.feed.bytes ≡ bytes → s.below ≡ r →
-    r.table ≡ table → r.below ≡ y → vec_items y.words ≡ words →
-    card_contents s ≡ held 0 0 count bytes (table ++ words)
-stacked s r y count bytes table words a t c b below tab under ws =
-    let own = λ (x : Rom Memory). x.table ++ vec_items x.below.words in
-    ap (λ x. held x s.feed.taken s.feed.count s.feed.bytes (own s.below)) a
-    ∙ ap (λ x. held 0 x s.feed.count s.feed.bytes (own s.below)) t
-    ∙ ap (λ x. held 0 0 x s.feed.bytes (own s.below)) c
-    ∙ ap (λ x. held 0 0 count x (own s.below)) b
-    ∙ ap (λ x. held 0 0 count bytes (own x)) below
-    ∙ ap (λ x. held 0 0 count bytes (x ++ vec_items r.below.words)) tab
-    ∙ ap (λ x. held 0 0 count bytes (table ++ vec_items x.words)) under
-    ∙ ap (λ x. held 0 0 count bytes (table ++ x)) ws
+pub stacked : (s : Panel (Rom Memory)) (r : Rom Memory) (y : Memory) (own table words : List ℕ) →
+    numbers s.feed ≡ own → s.below ≡ r → r.table ≡ table → r.below ≡ y → vec_items y.words ≡ words →
+    card_contents s ≡ own ++ (table ++ words)
+stacked s r y own table words f below tab under ws =
+    let rest = λ (x : Rom Memory). x.table ++ vec_items x.below.words in
+    ap (λ x. x ++ rest s.below) f
+    ∙ ap (λ x. own ++ rest x) below
+    ∙ ap (λ x. own ++ (x ++ vec_items r.below.words)) tab
+    ∙ ap (λ x. own ++ (table ++ vec_items x.words)) under
+    ∙ ap (λ x. own ++ (table ++ x)) ws

@@ -40,9 +40,9 @@ pub fn stack(words: Vec<u32>, feed: &[u8]) -> Card
 }
 
 /// The standard card: 4,096 zero words and no feed.
-pub fn standard(heap: Global) -> Result<Card, AllocError>
+pub fn standard(alloc: Global) -> Result<Card, AllocError>
     ensures { IfOk result (λ c. card_contents c ≡ new_card (replicate 4096 0) []) }
 {
-    let words = vec![in heap; 0; STANDARD_WORDS]?;
+    let words = vec![in alloc; 0; STANDARD_WORDS]?;
     Ok(stack(words, &[]))
 }

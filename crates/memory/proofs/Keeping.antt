@@ -1,8 +1,8 @@
 -- A memory keeps what is written.
 use Rattle.std.proofs.Common.{◌≡◌, ℕ, zero, suc, ◌/◌, ◌%◌, ◌^◌, ◌<◌, Bool, true, false, cond, ◌≢◌, [], ◌∷◌, get_or, sym, ap, ◌∙◌, mod-eq_of_lt, arith, get_or-set_other, get_or-set_same}
-use lib.ListN.{get_or-eq_default}
+use Rattle.std.proofs.Math.ListN.{get_or-eq_default}
 use Rattle.std.proofs.lemmas.List.{set_past}
-use Rattle.bus.specs.Lanes.{in_lane, merged, marked, all_marked}
+use Rattle.bus.specs.Lanes.{in_lane, byte_merged, merged, marked, all_marked}
 use Rattle.bus.specs.declared.Marks.{Marks}
 use Rattle.bus.proofs.Parting.{parted, joined_fits}
 use Rattle.memory.specs.Keeps.{Keeps}
@@ -23,7 +23,7 @@ picked old new m lane lt =
     ap (λ w. in_lane w lane) (mod-eq_of_lt (joined_fits _ _ _ _ f0 f1 f2 f3)) ∙ parted _ _ _ _ f0 f1 f2 f3 lane lt ∙ each lane lt
   where
     each : (lane : ℕ) → lane < 4 →
-        get_or (cond m.b0 (in_lane new 0) (in_lane old 0) ∷ cond m.b1 (in_lane new 1) (in_lane old 1) ∷ cond m.b2 (in_lane new 2) (in_lane old 2) ∷ cond m.b3 (in_lane new 3) (in_lane old 3) ∷ []) lane 0
+        get_or (byte_merged old new m 0 ∷ byte_merged old new m 1 ∷ byte_merged old new m 2 ∷ byte_merged old new m 3 ∷ []) lane 0
         ≡ cond (marked m lane) (in_lane new lane) (in_lane (old % 2 ^ 32) lane)
     each zero lt = ap (cond m.b0 (in_lane new 0)) (omega arith)
     each (suc zero) lt = ap (cond m.b1 (in_lane new 1)) (omega arith)

@@ -1,5 +1,5 @@
 -- What a memory promises of its words.
-use Rattle.std.specs.Prelude.{◌≡◌, ℕ, ◌^◌, ◌<◌, ◌≤◌, cond, List, length, ◌≢◌}
+use Rattle.std.specs.Prelude.{◌≡◌, ℕ, ◌^◌, ◌<◌, ◌≤◌, if◌then◌else◌, List, length, ◌≢◌}
 use Rattle.bus.specs.Lanes.{in_lane, marked, all_marked}
 use Rattle.bus.specs.declared.Marks.{Marks}
 use Rattle.memory.specs.Words.{memory_meaning}
@@ -9,7 +9,7 @@ pub record Keeps : Type 0 where
   -- at the address written, a marked lane shows the word's byte and any other lane the byte that was there
   pub lanes : (h : List ℕ) (at word : ℕ) (marks : Marks) → at < length h → (lane : ℕ) → lane < 4 →
       in_lane (memory_meaning.shown (memory_meaning.write h at word marks) at) lane
-      ≡ cond (marked marks lane) (in_lane word lane) (in_lane (memory_meaning.shown h at) lane)
+      ≡ (if marked marks lane then in_lane word lane else in_lane (memory_meaning.shown h at) lane)
   -- under all four marks it shows the word itself
   pub whole : (h : List ℕ) (at word : ℕ) → at < length h → word < 2 ^ 32 →
       memory_meaning.shown (memory_meaning.write h at word all_marked) at ≡ word

@@ -1,5 +1,5 @@
 -- What a memory means: its contents are its words, from address 0 on.
-use Rattle.std.specs.Prelude.{ℕ, ◌%◌, ◌^◌, cond, ◌||◌, List, Option, ◌==◌, nat_lt, slice_index, slice_set, refl}
+use Rattle.std.specs.Prelude.{ℕ, ◌%◌, ◌^◌, if◌then◌else◌, ◌||◌, List, Option, ◌==◌, nat_lt, slice_index, slice_set, refl}
 use Rattle.std.proofs.Common.{lit<}
 use Rattle.std.proofs.Math.Nat.{mod-lt}
 use Rattle.refusal.specs.Heard.{Told, refused, nothing}
@@ -9,7 +9,7 @@ use Rattle.bus.specs.Meaning.{Meaning}
 
 -- what is told of a memory of so many words
 abbrev pub words_refusal : ℕ → Option Told
-words_refusal n = cond (n == 0 || nat_lt 262144 n) (refused 1 1 0) nothing
+words_refusal n = if n == 0 || nat_lt 262144 n then refused 1 1 0 else nothing
 
 -- the word at an address, and 0 past the end
 abbrev pub memory_shown : List ℕ → ℕ → ℕ

@@ -1,2 +1,3 @@
 mod Reading
 mod Receiving
+mod Storing

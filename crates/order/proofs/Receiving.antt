@@ -1,6 +1,6 @@
 -- What the standard card holds after a field was stored at byte addresses 0 to 3.
 use Rattle.std.proofs.Common.{◌≡◌, ℕ, ◌%◌, ◌^◌, ◌<◌, List, [], ◌∷◌, ◌++◌, length, get_or, take, replicate, sym, refl, ap, ◌∙◌, append_assoc, mod-eq_of_lt, arith, take_all, drop_at}
-use lib.ListN.{length-replicate}
+use Rattle.std.proofs.Math.ListN.{length-replicate}
 use Rattle.std.proofs.lemmas.List.{take-replicate}
 use Rattle.bus.specs.declared.Marks.{Marks}
 use Rattle.bus.specs.Calls.{after}
@@ -9,7 +9,7 @@ use Rattle.bus.specs.Over.{over_at}
 use Rattle.bus.proofs.Parting.{parted, joined_fits, replaced}
 use Rattle.memory.specs.Words.{memory_meaning}
 use Rattle.rom.specs.Boot.{boot_image}
-use Rattle.bus.specs.Filled.{filled}
+use Rattle.bus.specs.Filled.{filled_with}
 use Rattle.card.specs.Stack.{card_meaning, new_card}
 use Rattle.card.proofs.Cards.{memory_below}
 use Rattle.order.specs.Quantity.{bytes_of, loaded_as, field_stores, loaded_bytes}
@@ -71,7 +71,7 @@ module _ (a b c d : ℕ) (fa : a < 256) (fb : b < 256) (fc : c < 256) (fd : d < 
 
 -- a new standard card
 pub starts : new_card (replicate 4096 0) [] ≡ first 0
-unfolding filled
+unfolding filled_with
 starts =
     ap (λ f. 0 ∷ 0 ∷ 0 ∷ (f ++ (boot_image ++ take 262144 (replicate 4096 0)))) (take-replicate 64 64 0 (omega arith))
     ∙ ap (λ w. 0 ∷ 0 ∷ 0 ∷ (replicate 64 0 ++ (boot_image ++ w))) (take_all 262144 (replicate 4096 0) (let long = length-replicate {A = ℕ} 4096 0 in omega arith))

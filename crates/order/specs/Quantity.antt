@@ -22,6 +22,11 @@ loaded_as bs = joined bs
 abbrev pub byte_store : ℕ → ℕ → Call
 byte_store address byte = writes (address / 4 % 2 ^ 22) (placed byte (address % 4)) (only_marked (address % 4))
 
+-- the byte stores of some bytes, one after the other from a byte address on
+abbrev pub byte_stores : ℕ → List ℕ → List Call
+byte_stores address [] = []
+byte_stores address (b ∷ bs) = byte_store address b ∷ byte_stores (address + 1) bs
+
 -- the four byte stores of a field, at byte addresses 0 to 3
 abbrev pub field_stores : List ℕ → List Call
 field_stores bs = byte_store 0 (slice_index bs 0) ∷ byte_store 1 (slice_index bs 1) ∷ byte_store 2 (slice_index bs 2) ∷ byte_store 3 (slice_index bs 3) ∷ []

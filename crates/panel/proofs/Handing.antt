@@ -1,14 +1,14 @@
 -- A panel hands out its feed in order, each byte once and none before its clock.
-use Rattle.std.proofs.Common.{◌≡◌, ℕ, suc, ◌+◌, ◌-◌, ◌*◌, ◌%◌, ◌<◌, ◌≤◌, min, Bool, true, false, cond, ◌&&◌, eqb, ltb, ◌⊎◌, List, [], ◌∷◌, ◌++◌, length, get_or, take, drop, replicate, sym, refl, ap, ◌∙◌, subst, inl, inr, ⊎_elim, mod-eq_of_lt, add-one, arith, length-append, length-take, length-take-le, drop-cons, get_or-take}
-use lib.ListN.{length-replicate, get_or-append}
+use Rattle.std.proofs.Common.{◌≡◌, ℕ, suc, ◌+◌, ◌-◌, ◌*◌, ◌%◌, ◌<◌, ◌≤◌, Bool, true, false, cond, ◌&&◌, eqb, ltb, ◌⊎◌, List, [], ◌∷◌, ◌++◌, length, get_or, take, drop, replicate, sym, refl, ap, ◌∙◌, subst, inl, inr, ⊎_elim, mod-eq_of_lt, add-one, arith, length-append, length-take, length-take-le, drop-cons, get_or-take}
+use Rattle.std.proofs.Math.ListN.{length-replicate, get_or-append}
 use Rattle.std.proofs.lemmas.Bool.{cases_Bool, cases_lt, cases_eq, cond-true, cond-false, and_parts, and_from, and_left, and_right, ltb-true, leb-true, le-ltb, le-leb, lt-leb, eq-eqb, ne_eqb, false≢true}
 use Rattle.bus.specs.Calls.{Call, after, called, clocks, lasted}
 use Rattle.bus.specs.Calls.Call.{passes, reads, writes}
-use Rattle.bus.specs.Filled.{filled}
+use Rattle.bus.specs.Filled.{filled_with, filled}
 use Rattle.bus.specs.Meaning.{Meaning}
-use Rattle.panel.specs.Cells.{on_panel, arrived, aged, aged_none, aged_more, panel_meaning}
+use Rattle.panel.specs.Cells.{new_feed, on_panel, arrived, aged, aged_none, aged_more, panel_meaning}
 use Rattle.panel.specs.HandsOut.{HandsOut, handed, handed_by}
-use Rattle.panel.proofs.Panels.{held, same_held, own_shown, own_read, below_read, own_write, below_write, both_passed}
+use Rattle.panel.proofs.Panels.{held, own_shown, own_read, below_read, own_write, below_write, both_passed}
 
 cond_same : (b : Bool) (x y z : ℕ) → (b ≡ true → x ≡ y) → cond b x z ≡ cond b y z
 cond_same true x y z e = e refl
@@ -199,7 +199,7 @@ module _ (m : Meaning) (f bytes : List ℕ) (long : length bytes ≡ 64) (few : 
 
 -- the table of a feed holds its bytes
 in_table : (fs : List ℕ) → ((i : ℕ) → get_or fs i 0 < 256) → (k : ℕ) → k < length (take 64 fs) → get_or (filled 64 fs) k 0 % 256 ≡ get_or (take 64 fs) k 0
-unfolding filled
+unfolding filled_with
 in_table fs fit k lt =
     let long = length-take 64 fs in
     let in-64 : k < 64 = omega arith in
@@ -208,16 +208,14 @@ in_table fs fit k lt =
     ∙ sym (get_or-take 64 fs k 0 in-64)
 
 pub table_long : (fs : List ℕ) → length (filled 64 fs) ≡ 64
-unfolding filled
+unfolding filled_with
 table_long fs = length-take-le 64 (fs ++ replicate 64 0) (let zeros = length-replicate {A = ℕ} 64 0 in simp length-append (omega arith))
 
 -- a new panel
-pub new_hands_out : (m : Meaning) (fs q : List ℕ) (age taken count : ℕ) (bytes : List ℕ) →
-    age ≡ 0 → taken ≡ 0 → count ≡ min 64 (length fs) → bytes ≡ filled 64 fs → ((i : ℕ) → get_or fs i 0 < 256) →
-    HandsOut (panel_meaning m) (held age taken count bytes q) (take 64 fs)
-new_hands_out m fs q age taken count bytes a t c b fit =
-    let P : List ℕ → Type 0 = λ h. HandsOut (panel_meaning m) h (take 64 fs) in
+pub new_hands_out : (m : Meaning) (fs q numbers : List ℕ) → numbers ≡ new_feed fs → ((i : ℕ) → get_or fs i 0 < 256) →
+    HandsOut (panel_meaning m) (numbers ++ q) (take 64 fs)
+new_hands_out m fs q numbers is fit =
+    let P : List ℕ → Type 0 = λ f. HandsOut (panel_meaning m) (f ++ q) (take 64 fs) in
     let few : length (take 64 fs) ≤ 64 = omega (arith, length-take 64 fs) in
-    let is : held 0 0 (length (take 64 fs)) (filled 64 fs) q ≡ held age taken count bytes q =
-    same_held (sym a) (sym t) (length-take 64 fs ∙ sym c) (sym b) refl in
-    subst P is (hands_out m (take 64 fs) (filled 64 fs) (table_long fs) few (in_table fs fit) q)
+    let new : 0 ∷ 0 ∷ length (take 64 fs) ∷ filled 64 fs ≡ numbers = ap (λ n. 0 ∷ 0 ∷ n ∷ filled 64 fs) (length-take 64 fs) ∙ sym is in
+    subst P new (hands_out m (take 64 fs) (filled 64 fs) (table_long fs) few (in_table fs fit) q)

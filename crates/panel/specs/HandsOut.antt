@@ -1,5 +1,5 @@
 -- What a panel promises of its feed, over any calls made of it.
-use Rattle.std.specs.Prelude.{◌≡◌, ℕ, ◌*◌, ◌≤◌, cond, ◌&&◌, List, [], ◌∷◌, ◌++◌, length, take, ◌==◌, slice_index}
+use Rattle.std.specs.Prelude.{◌≡◌, ℕ, ◌*◌, ◌≤◌, if◌then◌else◌, ◌&&◌, List, [], ◌∷◌, ◌++◌, length, take, ◌==◌, slice_index}
 use Rattle.bus.specs.Meaning.{Meaning}
 use Rattle.bus.specs.Calls.{Call, after, called, clocks}
 use Rattle.bus.specs.Calls.Call.{passes, reads, writes}
@@ -8,7 +8,7 @@ use Rattle.panel.specs.Cells.{arrived}
 -- the byte that one call hands out: a read of cell 2 while cell 3 shows 1
 abbrev pub handed_by : Meaning → List ℕ → Call → List ℕ
 handed_by m h (passes n) = []
-handed_by m h (reads at) = cond (at == 0x3FFFF2 && m.shown h 0x3FFFF3 == 1) (m.shown h 0x3FFFF2 ∷ []) []
+handed_by m h (reads at) = if at == 0x3FFFF2 && m.shown h 0x3FFFF3 == 1 then m.shown h 0x3FFFF2 ∷ [] else []
 handed_by m h (writes at word marks) = []
 
 -- the bytes that calls hand out, in their order
@@ -25,6 +25,6 @@ pub record HandsOut (m : Meaning) (h feed : List ℕ) : Type 0 where
   -- and as soon as they have, the next byte is shown until it is read
   pub shows_byte : (cs : List Call) →
       m.shown (after m h cs) 0x3FFFF2
-      ≡ cond (arrived (clocks cs) (length (handed m h cs)) (length feed)) (slice_index feed (length (handed m h cs))) 0
+      ≡ (if arrived (clocks cs) (length (handed m h cs)) (length feed) then slice_index feed (length (handed m h cs)) else 0)
   pub shows_ready : (cs : List Call) →
-      m.shown (after m h cs) 0x3FFFF3 ≡ cond (arrived (clocks cs) (length (handed m h cs)) (length feed)) 1 0
+      m.shown (after m h cs) 0x3FFFF3 ≡ (if arrived (clocks cs) (length (handed m h cs)) (length feed) then 1 else 0)

@@ -3,11 +3,11 @@
 
 mod queue;
 
-ghost use Rattle.std.specs.Prelude.{◌≡◌, ◌%◌, ◌^◌, min, ◌∷◌, ◌++◌, length, take};
-ghost use Rattle.bus.specs.Filled.{filled};
+ghost use Rattle.std.specs.Prelude.{◌≡◌, ◌%◌, ◌^◌, ◌++◌, length, take};
 ghost use Rattle.refusal.specs.Heard.{heard};
-ghost use Rattle.panel.specs.Cells.{feed_refusal, on_panel, panel_meaning};
+ghost use Rattle.panel.specs.Cells.{new_feed, feed_refusal, cell_at, panel_meaning};
 ghost use Rattle.panel.specs.HandsOut.{HandsOut};
+ghost use Rattle.panel.specs.Numbers.{numbers};
 
 use bus::{Bus, Marks};
 use queue::Feed;
@@ -26,6 +26,7 @@ pub struct Panel<B> {
     below: B,
 }
 
+// A test of its own for each layer, since a shared one would take the limit and the refusal and leave only its call.
 /// Whether a panel may be made with this feed.
 pub fn check(feed: &[u8]) -> Result<(), Refusal>
     ensures { heard result ≡ feed_refusal (length feed.now) }
@@ -39,12 +40,9 @@ pub fn check(feed: &[u8]) -> Result<(), Refusal>
 impl<B: Bus> Panel<B> {
     /// A panel of age 0 with the first 64 bytes of the feed.
     pub fn new(below: B, feed: &[u8]) -> Panel<B>
-        ensures age { result.feed.age ≡ 0 }
-        ensures taken { result.feed.taken ≡ 0 }
-        ensures count { result.feed.count ≡ min 64 (length feed.now) }
-        ensures bytes { result.feed.bytes ≡ filled 64 feed.now }
+        ensures feed { numbers result.feed ≡ new_feed feed.now }
         ensures below { result.below ≡ below }
-        ensures hands_out { HandsOut (panel_meaning B.Bus.meaning) (result.feed.age ∷ result.feed.taken ∷ result.feed.count ∷ (result.feed.bytes ++ B.Bus.contents result.below)) (take 64 feed.now) }
+        ensures hands_out { HandsOut (panel_meaning B.Bus.meaning) (numbers result.feed ++ B.Bus.contents result.below) (take 64 feed.now) }
     {
         Panel {
             feed: Feed::new(feed),
@@ -53,39 +51,38 @@ impl<B: Bus> Panel<B> {
     }
 }
 
-// Whether a word address is the panel's own.
-fn inside(at: u32) -> bool
-    ensures { result ≡ on_panel (at % 2 ^ 22) }
+// The cell at a word address, if it is one of the panel's own.
+fn own_cell(at: u32) -> Option<u32>
+    ensures { result ≡ cell_at (at % 2 ^ 22) }
 {
-    at % 0x40_0000 >= FIRST
+    (at % 0x40_0000).checked_sub(FIRST)
 }
 
 impl<B: Bus> Bus for Panel<B> {
-    ghost contents = { λ s. s.feed.age ∷ s.feed.taken ∷ s.feed.count ∷ (s.feed.bytes ++ B.Bus.contents s.below) };
+    ghost contents = { λ s. numbers s.feed ++ B.Bus.contents s.below };
 
     ghost meaning = { panel_meaning B.Bus.meaning };
 
     fn fetch(&self, at: u32) -> u32 {
-        if inside(at) {
-            self.feed.show(at % 0x40_0000 - FIRST)
-        } else {
-            self.below.fetch(at)
+        match own_cell(at) {
+            Some(cell) => self.feed.show(cell),
+            None => self.below.fetch(at),
         }
     }
 
     fn read(&mut self, at: u32) -> u32 {
-        if inside(at) {
-            let k = at % 0x40_0000 - FIRST;
-            let word = self.feed.show(k);
-            self.feed.take(k);
-            word
-        } else {
-            self.below.read(at)
+        match own_cell(at) {
+            Some(cell) => {
+                let word = self.feed.show(cell);
+                self.feed.take(cell);
+                word
+            }
+            None => self.below.read(at),
         }
     }
 
     fn write(&mut self, at: u32, word: u32, marks: Marks) {
-        if !inside(at) {
+        if own_cell(at).is_none() {
             self.below.write(at, word, marks);
         }
     }

@@ -1,19 +1,25 @@
 //! The panel's own part: a feed whose bytes arrive one by one, and wait until they are read.
-ghost use Rattle.std.specs.Prelude.{◌≡◌, ◌≤◌, min, length};
-ghost use Rattle.bus.specs.Filled.{filled};
-ghost use Rattle.panel.specs.Cells.{arrived, cell, taken_after, aged};
+ghost use Rattle.std.specs.Prelude.{◌≡◌, ◌≤◌, length};
+ghost use Rattle.panel.specs.Cells.{new_feed, next_byte, feed_shown, feed_read, feed_passed};
 
 use crate::MOST_BYTES;
+use bus::table::filled_with;
 
 const BYTE_CLOCKS: u32 = 13_030;
 
 const LAST_AGE: u32 = 833_920;
+
+// The cells that show something: the oldest byte, and whether there is one.
+const BYTE: u32 = 2;
+
+const READY: u32 = 3;
 
 /// A feed of up to 64 bytes, how many of them were taken, and the age in clocks.
 #[derive(Drop)]
 pub struct Feed {
     age: u32,
     taken: u8,
+    // Bytes with their count beside them: there is no heap, and the bus's contents name both.
     count: u8,
     bytes: [u8; 64],
     ghost young: { age ≤ 833920 },
@@ -22,25 +28,14 @@ pub struct Feed {
     ghost whole: { length bytes ≡ 64 },
 }
 
-// The first 64 bytes of a feed, with zeros after them.
-fn table(feed: &[u8]) -> [u8; 64]
-    ensures { result ≡ filled 64 feed.now }
-{
-    let mut bytes = [0; 64];
-    let n = feed.len().min(MOST_BYTES);
-    bytes[0..n].copy_from_slice(&feed[0..n]);
-    bytes
-}
-
 impl Feed {
+    ghost use Rattle.panel.specs.Numbers.{numbers};
+
     // The first 64 bytes, none of them arrived.
     pub(crate) fn new(feed: &[u8]) -> Feed
-        ensures age { result.age ≡ 0 }
-        ensures taken { result.taken ≡ 0 }
-        ensures count { result.count ≡ min 64 (length feed.now) }
-        ensures bytes { result.bytes ≡ filled 64 feed.now }
+        ensures { numbers result ≡ new_feed feed.now }
     {
-        let bytes = table(feed);
+        let bytes = filled_with(0, feed);
         Feed {
             age: 0,
             taken: 0,
@@ -49,45 +44,40 @@ impl Feed {
         }
     }
 
-    // Whether a byte has arrived and was not taken.
-    fn ready(&self) -> bool
-        ensures { result ≡ arrived self.now.age self.now.taken self.now.count }
+    // The byte that has arrived and was not taken, if there is one.
+    fn next(&self) -> Option<u8>
+        ensures { result ≡ next_byte self.now.age self.now.taken self.now.count self.now.bytes }
     {
-        self.taken < self.count && BYTE_CLOCKS * (self.taken as u32 + 1) <= self.age
+        if self.taken < self.count && BYTE_CLOCKS * (u32::from(self.taken) + 1) <= self.age {
+            Some(self.bytes[usize::from(self.taken)])
+        } else {
+            None
+        }
     }
 
     // What a cell shows.
-    pub(crate) fn show(&self, k: u32) -> u32
-        ensures { result ≡ cell self.now.age self.now.taken self.now.count self.now.bytes k }
+    pub(crate) fn show(&self, at: u32) -> u32
+        ensures { result ≡ feed_shown (numbers self.now) at }
     {
-        if !self.ready() {
-            return 0;
-        }
-        match k {
-            2 => self.bytes[self.taken as usize] as u32,
-            3 => 1,
+        match (at, self.next()) {
+            (BYTE, Some(byte)) => u32::from(byte),
+            (READY, Some(_)) => 1,
             _ => 0,
         }
     }
 
-    // A read of a cell: one of cell 2 takes the byte that is shown there.
-    pub(crate) fn take(&mut self, k: u32)
-        ensures age { self.new.age ≡ self.old.age }
-        ensures taken { self.new.taken ≡ taken_after self.old.age self.old.taken self.old.count k }
-        ensures count { self.new.count ≡ self.old.count }
-        ensures bytes { self.new.bytes ≡ self.old.bytes }
+    // A read of a cell: one of the byte's cell takes the byte that is shown there.
+    pub(crate) fn take(&mut self, at: u32)
+        ensures { numbers self.new ≡ feed_read (numbers self.old) at }
     {
-        if k == 2 && self.ready() {
+        if at == BYTE && self.next().is_some() {
             self.taken += 1;
         }
     }
 
     pub(crate) fn pass(&mut self, clocks: u16)
-        ensures age { self.new.age ≡ aged self.old.age clocks }
-        ensures taken { self.new.taken ≡ self.old.taken }
-        ensures count { self.new.count ≡ self.old.count }
-        ensures bytes { self.new.bytes ≡ self.old.bytes }
+        ensures { numbers self.new ≡ feed_passed (numbers self.old) clocks }
     {
-        self.age += (clocks as u32).min(LAST_AGE - self.age);
+        self.age += u32::from(clocks).min(LAST_AGE - self.age);
     }
 }

@@ -72,13 +72,10 @@ impl Refusal {
         ensures { result ≡ (told self).place }
     {
         match self {
-            Refusal::MemoryWords | Refusal::ImageWords | Refusal::FeedBytes => 0,
-            Refusal::RegisterNumber | Refusal::LinesTooMany => 0,
             Refusal::LineValue(line) => line,
-            Refusal::InsideInstruction => 0,
-            Refusal::DeckSize => 0,
             Refusal::RowForm(row) | Refusal::FieldForm(row) => row,
             Refusal::NumberLimit(row) | Refusal::LinesFull(row) => row,
+            _ => 0,
         }
     }
 

@@ -1,5 +1,5 @@
 -- What a ROM over a bus means: its contents are its 512 words, and then the contents below.
-use Rattle.std.specs.Prelude.{ℕ, ◌+◌, ◌-◌, ◌%◌, ◌^◌, ◌<◌, Bool, cond, ◌&&◌, List, drop, Option, nat_le, nat_lt, slice_index}
+use Rattle.std.specs.Prelude.{ℕ, ◌+◌, ◌-◌, ◌%◌, ◌^◌, ◌<◌, Bool, if◌then◌else◌, ◌&&◌, List, drop, Option, Some, None, nat_le, nat_lt, slice_index}
 use Rattle.std.proofs.Common.{arith}
 use Rattle.std.proofs.lemmas.Bool.{cond_both}
 use Rattle.refusal.specs.Heard.{Told, refused, nothing}
@@ -9,22 +9,26 @@ use Rattle.bus.specs.Over.{over, over_none, over_more}
 
 -- what is told of an image of so many words
 abbrev pub image_refusal : ℕ → Option Told
-image_refusal n = cond (nat_lt 512 n) (refused 2 1 0) nothing
+image_refusal n = if nat_lt 512 n then refused 2 1 0 else nothing
 
 -- the ROM's own word addresses, 512 from 3FF800H
 abbrev pub in_rom : ℕ → Bool
 in_rom at = nat_le 0x3FF800 at && nat_lt at 0x3FFA00
 
+-- the place of an address among the ROM's words, if it is the ROM's own
+abbrev pub place_of : ℕ → Option ℕ
+place_of at = if in_rom at then Some (at - 0x3FF800) else None
+
 -- its own words at its own addresses, elsewhere what the bus below shows
 abbrev pub rom_shown : Meaning → List ℕ → ℕ → ℕ
-rom_shown m h at = cond (in_rom at) (slice_index h (at - 0x3FF800) % 2 ^ 32) (m.shown (drop 512 h) at)
+rom_shown m h at = if in_rom at then slice_index h (at - 0x3FF800) % 2 ^ 32 else m.shown (drop 512 h) at
 
 -- reads and writes at its own addresses do nothing; others go to the bus below
 abbrev pub rom_read : Meaning → List ℕ → ℕ → List ℕ
-rom_read m h at = cond (in_rom at) h (over 512 (λ below. m.read below at) h)
+rom_read m h at = if in_rom at then h else over 512 (λ below. m.read below at) h
 
 abbrev pub rom_write : Meaning → List ℕ → ℕ → ℕ → Marks → List ℕ
-rom_write m h at word marks = cond (in_rom at) h (over 512 (λ below. m.write below at word marks) h)
+rom_write m h at word marks = if in_rom at then h else over 512 (λ below. m.write below at word marks) h
 
 -- every clock goes to the bus below
 abbrev pub rom_passed : Meaning → List ℕ → ℕ → List ℕ

@@ -5,8 +5,9 @@ ghost use Rattle.std.specs.Prelude.{◌≡◌, ◌%◌, ◌^◌, ◌++◌, lengt
 ghost use Rattle.bus.specs.Filled.{filled};
 ghost use Rattle.refusal.specs.Heard.{heard};
 ghost use Rattle.rom.specs.Boot.{boot_image, ShowsBoot};
-ghost use Rattle.rom.specs.Table.{image_refusal, in_rom, rom_meaning, StaysStill};
+ghost use Rattle.rom.specs.Table.{image_refusal, place_of, rom_meaning, StaysStill};
 
+use bus::table::filled_with;
 use bus::{Bus, Marks};
 use refusal::Refusal;
 
@@ -16,8 +17,6 @@ pub const WORDS: usize = 512;
 /// The word address of the first.
 pub const FIRST: u32 = 0x3F_F800;
 
-const PAST: u32 = 0x3F_FA00;
-
 /// 512 words that are shown from word address 3FF800H on, over the bus below.
 #[derive(Drop)]
 pub struct Rom<B> {
@@ -26,6 +25,7 @@ pub struct Rom<B> {
     ghost whole: { length table ≡ 512 },
 }
 
+// A test of its own for each layer, since a shared one would take the limit and the refusal and leave only its call.
 /// Whether a ROM may be made of this image.
 pub fn check(image: &[u32]) -> Result<(), Refusal>
     ensures { heard result ≡ image_refusal (length image.now) }
@@ -45,21 +45,6 @@ pub fn boot_image() -> [u32; 512]
     words
 }
 
-// The first 512 words of an image, with zeros after them.
-fn table(image: &[u32]) -> [u32; 512]
-    ensures { result ≡ filled 512 image.now }
-{
-    let mut words = [0; 512];
-    let n = image.len().min(WORDS);
-    words[0..n].copy_from_slice(&image[0..n]);
-    words
-}
-
-// What holds of a ROM over every bus, for the contract of `Rom::new`. Nothing runs here.
-fn laws<B: Bus>()
-    ensures { StaysStill B.Bus.meaning }
-{}
-
 impl<B: Bus> Rom<B> {
     /// A ROM of the first 512 words of the image, filled with zeros where there are fewer.
     pub fn new(below: B, image: &[u32]) -> Rom<B>
@@ -67,8 +52,7 @@ impl<B: Bus> Rom<B> {
         ensures below { result.below ≡ below }
         ensures still { StaysStill B.Bus.meaning }
     {
-        laws::<B>();
-        let table = table(image);
+        let table = filled_with(0, image);
         Rom { table, below }
     }
 
@@ -83,12 +67,12 @@ impl<B: Bus> Rom<B> {
     }
 }
 
-// Whether a word address is the ROM's own.
-fn inside(at: u32) -> bool
-    ensures { result ≡ in_rom (at % 2 ^ 22) }
+// The place in the table of a word address, if it is the ROM's own.
+fn own_place(at: u32) -> Option<usize>
+    ensures { result ≡ place_of (at % 2 ^ 22) }
 {
-    let a = at % 0x40_0000;
-    a >= FIRST && a < PAST
+    let place = (at % 0x40_0000).checked_sub(FIRST)? as usize;
+    (place < WORDS).then_some(place)
 }
 
 impl<B: Bus> Bus for Rom<B> {
@@ -97,23 +81,21 @@ impl<B: Bus> Bus for Rom<B> {
     ghost meaning = { rom_meaning B.Bus.meaning };
 
     fn fetch(&self, at: u32) -> u32 {
-        if inside(at) {
-            self.table[(at % 0x40_0000 - FIRST) as usize]
-        } else {
-            self.below.fetch(at)
+        match own_place(at) {
+            Some(place) => self.table[place],
+            None => self.below.fetch(at),
         }
     }
 
     fn read(&mut self, at: u32) -> u32 {
-        if inside(at) {
-            self.table[(at % 0x40_0000 - FIRST) as usize]
-        } else {
-            self.below.read(at)
+        match own_place(at) {
+            Some(place) => self.table[place],
+            None => self.below.read(at),
         }
     }
 
     fn write(&mut self, at: u32, word: u32, marks: Marks) {
-        if !inside(at) {
+        if own_place(at).is_none() {
             self.below.write(at, word, marks);
         }
     }

@@ -12,7 +12,7 @@ returns c =
     let f3 : f.b3 < 256 = search rules in
     let h = card_contents c.in_ok-bus.bus in
     let new = c.in_ok-bus.ensures in
-    let got = c.pass_through-finding.ensures in
+    let got = c.pass_through.ensures in
     record {
       word = got.word ∙ word_received f.b0 f.b1 f.b2 f.b3 f0 f1 f2 f3 h new;
       bytes = same_field _ _ (got.bytes ∙ bytes_received f.b0 f.b1 f.b2 f.b3 f0 f1 f2 f3 h new);

@@ -1,5 +1,0 @@
-use Rattle.bus.specs.Over.{over_none}
-use Rattle.rom.proofs.laws.Goals as goal
-
-pub returns : goal.returns
-returns g c = λ still h n. over_none 512 (λ below. g.B.Bus.meaning.passed below n) (λ below. still below n) h
