@@ -5,12 +5,13 @@ mod sums;
 mod words;
 
 ghost use Rattle.std.specs.Prelude.{◌≡◌};
-ghost use Rattle.alu.specs.Operations.{written, plain, arithmetic, flag_word, moved, carry_in, added, subtracted, outcome};
+ghost use Rattle.alu.specs.Operations.{written, plain, arithmetic, flag_word, moved, carry_in, outcome};
 
 use isa::{Flags, Instruction, Operation};
+use sums::Sum;
 
 /// What a register operation reads: the value of R.b, the operand n, H and the flags.
-#[derive(Clone, Copy)]
+#[derive(Clone, Copy, PartialEq, Eq, Debug)]
 pub struct Inputs {
     pub b: u32,
     pub n: u32,
@@ -19,7 +20,7 @@ pub struct Inputs {
 }
 
 /// What a register operation gives: the value to write into R.a, and the flags after it.
-#[derive(Clone, Copy)]
+#[derive(Clone, Copy, PartialEq, Eq, Debug)]
 pub struct Outcome {
     pub value: u32,
     pub flags: Flags,
@@ -46,14 +47,15 @@ fn give(value: u32, flags: Flags) -> Outcome
     }
 }
 
-fn give_sum(value: u32, carry: bool, overflow: bool, flags: Flags) -> Outcome
-    ensures { result ≡ arithmetic value carry overflow flags }
+// The value of a sum or a difference, with C and V by it.
+fn give_sum(sum: Sum, flags: Flags) -> Outcome
+    ensures { result ≡ arithmetic sum.value sum.carry sum.overflow flags }
 {
     give(
-        value,
+        sum.value,
         Flags {
-            c: carry,
-            v: overflow,
+            c: sum.carry,
+            v: sum.overflow,
             ..flags
         },
     )
@@ -62,11 +64,7 @@ fn give_sum(value: u32, carry: bool, overflow: bool, flags: Flags) -> Outcome
 fn flag_word(flags: Flags) -> u32
     ensures { result ≡ flag_word flags }
 {
-    (if flags.n { 0x8000_0000 } else { 0 })
-        + (if flags.z { 0x4000_0000 } else { 0 })
-        + (if flags.c { 0x2000_0000 } else { 0 })
-        + (if flags.v { 0x1000_0000 } else { 0 })
-        + 0x53
+    (u32::from(u8::from(flags)) << 28) + 0x53
 }
 
 fn mov(instruction: Instruction, inputs: Inputs) -> u32
@@ -86,28 +84,6 @@ fn carry_in(instruction: Instruction, flags: Flags) -> bool
     instruction.u() && flags.c
 }
 
-fn add(b: u32, n: u32, carry: bool, flags: Flags) -> Outcome
-    ensures { result ≡ added b n carry flags }
-{
-    give_sum(
-        sums::sum(b, n, carry),
-        sums::sum_carries(b, n, carry),
-        sums::sum_overflows(b, n, carry),
-        flags,
-    )
-}
-
-fn subtract(b: u32, n: u32, carry: bool, flags: Flags) -> Outcome
-    ensures { result ≡ subtracted b n carry flags }
-{
-    give_sum(
-        sums::difference(b, n, carry),
-        sums::difference_borrows(b, n, carry),
-        sums::difference_overflows(b, n, carry),
-        flags,
-    )
-}
-
 /// One register operation of an instruction word.
 pub fn operate(operation: Operation, instruction: Instruction, inputs: Inputs) -> Outcome
     ensures { result ≡ outcome operation instruction.word inputs }
@@ -122,8 +98,8 @@ pub fn operate(operation: Operation, instruction: Instruction, inputs: Inputs) -
         Operation::Ann => give(words::and_not(b, n), flags),
         Operation::Ior => give(b | n, flags),
         Operation::Xor => give(b ^ n, flags),
-        Operation::Add => add(b, n, carry_in(instruction, flags), flags),
-        Operation::Sub => subtract(b, n, carry_in(instruction, flags), flags),
+        Operation::Add => give_sum(sums::add(b, n, carry_in(instruction, flags)), flags),
+        Operation::Sub => give_sum(sums::subtract(b, n, carry_in(instruction, flags)), flags),
         Operation::Zero => give(0, flags),
     }
 }

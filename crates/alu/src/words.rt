@@ -5,19 +5,20 @@ ghost use Rattle.alu.specs.Arithmetic.{lsl, asr, ror, ann};
 pub fn shift_left(a: u32, n: u32) -> u32
     ensures { result ≡ lsl a n }
 {
-    a << (n % 32)
+    a.wrapping_shl(n)
 }
 
 pub fn shift_signed(a: u32, n: u32) -> u32
     ensures { result ≡ asr a n }
 {
-    (a.cast_signed() >> (n % 32)).cast_unsigned()
+    a.cast_signed().wrapping_shr(n).cast_unsigned()
 }
 
+#[tactic(auto, using(crate::proofs::Rotations::rotated))]
 pub fn rotate(a: u32, n: u32) -> u32
     ensures { result ≡ ror a n }
 {
-    ((a as u64 * 0x1_0000_0001 >> (n % 32)) % 0x1_0000_0000) as u32
+    a.rotate_right(n)
 }
 
 pub fn and_not(a: u32, n: u32) -> u32

@@ -3,17 +3,21 @@
 
 mod table;
 
-ghost use Rattle.std.specs.Prelude.{◌≡◌, ◌<◌, ◌≤◌};
+ghost use Rattle.std.specs.Prelude.{◌≡◌, ◌<◌, ◌≤◌, Some};
 ghost use Rattle.isa.specs.Numbers.{bit, field};
 ghost use Rattle.isa.specs.Word.{q, u, v, a, b, c, imm, constant};
 ghost use Rattle.isa.specs.Kinds.{code_of, operation_at, register_kind, kind_at, kind_of, clocks_of};
+ghost use Rattle.isa.specs.Names.{operation_name, kind_name};
+ghost use Rattle.isa.specs.Digits.{digit_of, Reads};
 ghost use Rattle.isa.specs.Access.{address_of, word_of, loaded, sent};
 ghost use Rattle.isa.specs.Branch.{holds, taken_by, following, target_of, link_of, returns_by, enabled_by};
 
 use bus::{Marks, lanes};
+use std::error::Error;
+use std::fmt;
 
 /// The four flags.
-#[derive(Clone, Copy)]
+#[derive(Clone, Copy, PartialEq, Eq, Debug, Default)]
 pub struct Flags {
     pub n: bool,
     pub z: bool,
@@ -21,8 +25,48 @@ pub struct Flags {
     pub v: bool,
 }
 
+/// A number over 15, which stands for no flags.
+#[derive(Clone, Copy, PartialEq, Eq, Debug)]
+pub struct FlagsError(pub u8);
+
+/// The digit of the flags: 8 for N, 4 for Z, 2 for C and 1 for V.
+impl From<Flags> for u8 {
+    ghost from_gives = { λ flags digit. digit ≡ digit_of flags };
+
+    fn from(flags: Flags) -> u8 {
+        8 * u8::from(flags.n) + 4 * u8::from(flags.z) + 2 * u8::from(flags.c) + u8::from(flags.v)
+    }
+}
+
+/// The flags that a digit stands for. Refuses a number over 15.
+impl TryFrom<u8> for Flags {
+    type Error = FlagsError;
+
+    ghost try_from_gives = { Reads };
+
+    fn try_from(digit: u8) -> Result<Flags, FlagsError> {
+        if digit > 15 {
+            return Err(FlagsError(digit));
+        }
+        Ok(Flags {
+            n: digit / 8 % 2 == 1,
+            z: digit / 4 % 2 == 1,
+            c: digit / 2 % 2 == 1,
+            v: digit % 2 == 1,
+        })
+    }
+}
+
+impl fmt::Display for FlagsError {
+    fn fmt<W: fmt::Write>(&self, f: &mut fmt::Formatter<W>) -> fmt::Result {
+        write!(f, "flags are a number up to 15, and not {}", self.0)
+    }
+}
+
+impl Error for FlagsError {}
+
 /// What a register instruction does besides multiplying and dividing; `Zero` stands for the operations 12 to 15.
-#[derive(Clone, Copy)]
+#[derive(Clone, Copy, PartialEq, Eq, Debug)]
 pub enum Operation {
     Mov,
     Lsl,
@@ -37,8 +81,28 @@ pub enum Operation {
     Zero,
 }
 
+impl fmt::Display for Operation {
+    ghost output = { λ operation. Some (operation_name operation) };
+
+    fn fmt<W: fmt::Write>(&self, f: &mut fmt::Formatter<W>) -> fmt::Result {
+        f.write_str(match self {
+            Operation::Mov => "MOV",
+            Operation::Lsl => "LSL",
+            Operation::Asr => "ASR",
+            Operation::Ror => "ROR",
+            Operation::And => "AND",
+            Operation::Ann => "ANN",
+            Operation::Ior => "IOR",
+            Operation::Xor => "XOR",
+            Operation::Add => "ADD",
+            Operation::Sub => "SUB",
+            Operation::Zero => "zero",
+        })
+    }
+}
+
 /// What the core does with a word.
-#[derive(Clone, Copy)]
+#[derive(Clone, Copy, PartialEq, Eq, Debug)]
 pub enum Kind {
     Register(Operation),
     Multiply,
@@ -48,15 +112,30 @@ pub enum Kind {
     Branch,
 }
 
+impl fmt::Display for Kind {
+    ghost output = { λ kind. Some (kind_name kind) };
+
+    fn fmt<W: fmt::Write>(&self, f: &mut fmt::Formatter<W>) -> fmt::Result {
+        match self {
+            Kind::Register(operation) => operation.fmt(f),
+            Kind::Multiply => f.write_str("MUL"),
+            Kind::Divide => f.write_str("DIV"),
+            Kind::Load => f.write_str("load"),
+            Kind::Store => f.write_str("store"),
+            Kind::Branch => f.write_str("branch"),
+        }
+    }
+}
+
 /// What a store sends over the bus.
-#[derive(Clone, Copy)]
+#[derive(Clone, Copy, PartialEq, Eq, Debug)]
 pub struct Sent {
     pub word: u32,
     pub marks: Marks,
 }
 
 /// An instruction word.
-#[derive(Clone, Copy)]
+#[derive(Clone, Copy, PartialEq, Eq, Debug)]
 pub struct Instruction {
     pub word: u32,
 }
@@ -69,8 +148,16 @@ fn is_set(word: u32, i: u32) -> bool
     (word >> i) % 2 == 1
 }
 
-// Operations 0 to 9, and the others.
-fn operation_at(op: u32) -> Operation
+// The number of a register: the four bits from bit i on.
+fn register_number(word: u32, i: u32) -> usize
+    requires { i < 32 }
+    ensures { result ≡ field i 4 word }
+{
+    ((word >> i) % 16) as usize
+}
+
+// Operations 0 to 9, and the others. No `From`, since a number names an operation only in a word whose p is 0.
+fn operation_at(op: u8) -> Operation
     ensures { result ≡ operation_at op }
 {
     match op {
@@ -88,7 +175,7 @@ fn operation_at(op: u32) -> Operation
     }
 }
 
-fn register_kind(op: u32) -> Kind
+fn register_kind(op: u8) -> Kind
     ensures { result ≡ register_kind op }
 {
     match op {
@@ -98,18 +185,21 @@ fn register_kind(op: u32) -> Kind
     }
 }
 
-fn kind_at(code: u8) -> Kind
-    ensures { result ≡ kind_at code }
-{
-    match code {
-        0..=127 => register_kind(u32::from(code % 16)),
-        128..=159 => Kind::Load,
-        160..=191 => Kind::Store,
-        192..=255 => Kind::Branch,
+/// The kind with a number: bits 31 to 28 of its words, and then their bits 19 to 16.
+impl From<u8> for Kind {
+    ghost from_gives = { λ code kind. kind ≡ kind_at code };
+
+    fn from(code: u8) -> Kind {
+        match code {
+            0..=127 => register_kind(code % 16),
+            128..=159 => Kind::Load,
+            160..=191 => Kind::Store,
+            192..=255 => Kind::Branch,
+        }
     }
 }
 
-// One of the eight conditions, before inversion.
+// One of the eight conditions, before inversion. An enum of them would only name the numbers of this match.
 fn condition(cc: u32, flags: Flags) -> bool
     ensures { result ≡ holds cc flags }
 {
@@ -133,13 +223,15 @@ impl Instruction {
         ((self.word >> 28) * 16 + (self.word >> 16) % 16) as u8
     }
 
+    #[tactic(auto, unfolding(crate::specs::Kinds::kind_of))]
     pub fn kind(self) -> Kind
         ensures { result ≡ kind_of self.word }
     {
-        kind_at(self.code())
+        Kind::from(self.code())
     }
 
     /// How many clocks it takes, by the table.
+    #[tactic(auto, using(crate::proofs::Counts::at_least_one), unfolding(crate::specs::Kinds::kind_of))]
     pub fn clocks(self) -> u16
         ensures value { result ≡ clocks_of self.word }
         ensures least { 1 ≤ result }
@@ -172,21 +264,21 @@ impl Instruction {
     pub fn a(self) -> usize
         ensures { result ≡ a self.word }
     {
-        ((self.word >> 24) % 16) as usize
+        register_number(self.word, 24)
     }
 
     /// The number of the register R.b.
     pub fn b(self) -> usize
         ensures { result ≡ b self.word }
     {
-        ((self.word >> 20) % 16) as usize
+        register_number(self.word, 20)
     }
 
     /// The number of the register R.c.
     pub fn c(self) -> usize
         ensures { result ≡ c self.word }
     {
-        (self.word % 16) as usize
+        register_number(self.word, 0)
     }
 
     /// Its low 16 bits.

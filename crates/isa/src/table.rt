@@ -44,5 +44,5 @@ const CLOCKS: [u8; 256] = [
 pub fn clocks(code: u8) -> u8
     ensures { result ≡ clocks_by (kind_at code) }
 {
-    CLOCKS[code as usize]
+    CLOCKS[usize::from(code)]
 }

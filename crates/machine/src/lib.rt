@@ -3,11 +3,13 @@
 
 pub mod laws;
 
-use isa::Flags;
+ghost use Rattle.std.specs.Prelude.{◌≡◌};
+
+use isa::{Flags, Instruction};
 use unit::Pair;
 
 /// R0 to R15, H and the flags.
-#[derive(Clone, Copy)]
+#[derive(Clone, Copy, PartialEq, Eq, Debug, Default)]
 pub struct Registers {
     pub r: [u32; 16],
     pub h: u32,
@@ -15,14 +17,23 @@ pub struct Registers {
 }
 
 /// The instruction in hand: its word address and its word.
-#[derive(Clone, Copy)]
+#[derive(Clone, Copy, PartialEq, Eq, Debug, Default)]
 pub struct Fetched {
     pub pc: u32,
     pub ir: u32,
 }
 
+impl Fetched {
+    /// The instruction word.
+    pub fn instruction(self) -> Instruction
+        ensures { result.word ≡ self.ir }
+    {
+        Instruction { word: self.ir }
+    }
+}
+
 /// Whether interrupts are enabled, whether the core is in one, and what it goes back to.
-#[derive(Clone, Copy)]
+#[derive(Clone, Copy, PartialEq, Eq, Debug, Default)]
 pub struct Interrupts {
     pub enable: bool,
     pub mode: bool,
@@ -31,14 +42,14 @@ pub struct Interrupts {
 }
 
 /// Whether a tick is pending, and the tick line as it was last.
-#[derive(Clone, Copy)]
+#[derive(Clone, Copy, PartialEq, Eq, Debug, Default)]
 pub struct Ticks {
     pub pending: bool,
     pub last: bool,
 }
 
 /// A core at an instruction boundary: all of it but its waiting.
-#[derive(Clone, Copy)]
+#[derive(Clone, Copy, PartialEq, Eq, Debug, Default)]
 pub struct Context {
     pub registers: Registers,
     pub fetched: Fetched,
@@ -47,25 +58,26 @@ pub struct Context {
 }
 
 /// How far the core is inside an instruction: the step number, and the pair of the unit at work.
-#[derive(Clone, Copy)]
+#[derive(Clone, Copy, PartialEq, Eq, Debug, Default)]
 pub struct Waiting {
     pub step: u16,
     pub pair: Pair,
 }
 
 /// A core.
-#[derive(Clone, Copy)]
+#[derive(Clone, Copy, PartialEq, Eq, Debug, Default)]
 pub struct Core {
     pub context: Context,
     pub waiting: Waiting,
 }
 
 /// A finished instruction: its address and word, its clocks by the table, its stalled lines, and 1 if it acknowledged an interrupt.
-#[derive(Clone, Copy)]
+#[derive(Clone, Copy, PartialEq, Eq, Debug, Default)]
 pub struct Record {
     pub address: u32,
     pub word: u32,
     pub clocks: u16,
     pub stalls: u16,
+    // A number and no bool: a record is five plain numbers, a form that the project asks for.
     pub acknowledged: u8,
 }

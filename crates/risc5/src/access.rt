@@ -13,6 +13,7 @@ fn byte_address(registers: &Registers, instruction: Instruction) -> u32
 }
 
 // The word address of a load or store.
+#[tactic(auto, unfolding(crate::specs::Registers::place))]
 fn place_of(registers: &Registers, instruction: Instruction) -> u32
     ensures { result ≡ place instruction.word registers.now }
 {
@@ -20,6 +21,7 @@ fn place_of(registers: &Registers, instruction: Instruction) -> u32
 }
 
 // A load's register write, from the word shown.
+#[tactic(auto, unfolding(crate::specs::Registers::loaded))]
 fn take_in(registers: &mut Registers, instruction: Instruction, shown: u32)
     ensures { registers.new ≡ loaded instruction.word registers.old shown }
 {
@@ -28,6 +30,7 @@ fn take_in(registers: &mut Registers, instruction: Instruction, shown: u32)
 }
 
 // What a store sends.
+#[tactic(auto, unfolding(crate::specs::Registers::sent))]
 fn sent_by(registers: &Registers, instruction: Instruction) -> Sent
     ensures { result ≡ sent instruction.word registers.now }
 {

@@ -2,7 +2,7 @@
 #![tactic(auto)]
 
 mod access;
-mod units;
+pub mod units;
 
 ghost use Rattle.std.specs.Prelude.{◌≡◌};
 ghost use Rattle.isa.specs.Kinds.{kind_of};
@@ -14,9 +14,10 @@ ghost use Rattle.risc5.specs.Set.{class_by, card, pace, next_by, effect_by, retu
 pub use access::{load, store};
 use alu::Inputs;
 use isa::{Instruction, Kind, Operation};
-use machine::Registers;
+use machine::{Fetched, Registers};
 use unit::Pair;
-pub use units::{divide_clock, multiply_clock};
+use unit::divider::Divider;
+use unit::multiplier::Multiplier;
 
 /// The value of a register, by its number modulo 16.
 pub fn get(registers: &Registers, number: usize) -> u32
@@ -35,6 +36,7 @@ fn set(registers: &mut Registers, number: usize, value: u32)
 }
 
 // The operand n.
+#[tactic(auto, unfolding(crate::specs::Registers::operand))]
 fn operand_of(registers: &Registers, instruction: Instruction) -> u32
     ensures { result ≡ operand instruction.word registers.now }
 {
@@ -56,6 +58,7 @@ fn inputs_of(registers: &Registers, instruction: Instruction) -> Inputs
     }
 }
 
+#[tactic(auto, unfolding(crate::specs::Registers::operated))]
 fn operate(registers: &mut Registers, operation: Operation, instruction: Instruction)
     ensures { registers.new ≡ operated operation instruction.word registers.old }
 {
@@ -65,63 +68,63 @@ fn operate(registers: &mut Registers, operation: Operation, instruction: Instruc
 }
 
 // A taken branch with v links.
-fn keep_link(registers: &mut Registers, instruction: Instruction, pc: u32)
-    ensures { registers.new ≡ linked instruction.word pc registers.old }
+#[tactic(auto, unfolding(crate::specs::Registers::linked))]
+fn keep_link(registers: &mut Registers, fetched: Fetched)
+    ensures { registers.new ≡ linked fetched.ir fetched.pc registers.old }
 {
+    let instruction = fetched.instruction();
     if instruction.taken(registers.flags) && instruction.v() {
-        set(registers, 15, isa::link(pc));
+        set(registers, 15, isa::link(fetched.pc));
     }
 }
 
-fn branch(registers: &Registers, instruction: Instruction, pc: u32) -> u32
-    ensures { result ≡ branched instruction.word pc registers.now }
+#[tactic(auto, unfolding(crate::specs::Registers::branched))]
+fn branch(registers: &Registers, fetched: Fetched) -> u32
+    ensures { result ≡ branched fetched.ir fetched.pc registers.now }
 {
+    let instruction = fetched.instruction();
     if instruction.taken(registers.flags) {
-        instruction.target(pc, get(registers, instruction.c()))
+        instruction.target(fetched.pc, get(registers, instruction.c()))
     } else {
-        isa::next(pc)
+        isa::next(fetched.pc)
     }
 }
 
-/// The address after an instruction at `pc` that does not return.
-pub fn next(registers: &Registers, instruction: Instruction, pc: u32) -> u32
-    ensures { result ≡ next_by (kind_of instruction.word) instruction.word pc registers.now }
+/// The address after the instruction in hand, unless it returns.
+pub fn next(registers: &Registers, fetched: Fetched) -> u32
+    ensures { result ≡ next_by (kind_of fetched.ir) fetched.ir fetched.pc registers.now }
 {
-    match instruction.kind() {
-        Kind::Branch => branch(registers, instruction, pc),
-        Kind::Register(_) => isa::next(pc),
-        Kind::Multiply => isa::next(pc),
-        Kind::Divide => isa::next(pc),
-        Kind::Load => isa::next(pc),
-        Kind::Store => isa::next(pc),
+    match fetched.instruction().kind() {
+        Kind::Branch => branch(registers, fetched),
+        _ => isa::next(fetched.pc),
     }
 }
 
-/// What an instruction at `pc` writes, at once: products and quotients are exact.
-pub fn effect(registers: &mut Registers, instruction: Instruction, pc: u32)
-    ensures { registers.new ≡ effect_by (kind_of instruction.word) instruction.word pc registers.old }
+/// What the instruction in hand writes, at once: products and quotients are exact.
+#[tactic(auto, unfolding(crate::specs::Units::multiplied, crate::specs::Units::divided))]
+pub fn effect(registers: &mut Registers, fetched: Fetched)
+    ensures { registers.new ≡ effect_by (kind_of fetched.ir) fetched.ir fetched.pc registers.old }
 {
+    let instruction = fetched.instruction();
     match instruction.kind() {
         Kind::Register(operation) => operate(registers, operation, instruction),
-        Kind::Multiply => units::multiply(registers, instruction),
-        Kind::Divide => units::divide(registers, instruction),
-        Kind::Load => {}
-        Kind::Store => {}
-        Kind::Branch => keep_link(registers, instruction, pc),
+        Kind::Multiply => units::at_once::<Multiplier>(registers, instruction),
+        Kind::Divide => units::at_once::<Divider>(registers, instruction),
+        Kind::Load | Kind::Store => {}
+        Kind::Branch => keep_link(registers, fetched),
     }
 }
 
-/// What an instruction at `pc` writes on its last clock, from the pair that this leaves.
-pub fn write(registers: &mut Registers, instruction: Instruction, pc: u32, pair: Pair)
-    ensures { registers.new ≡ written_by card pace (class_by (kind_of instruction.word)) instruction.word pc registers.old pair }
+/// What the instruction in hand writes on its last clock, from the pair that this leaves.
+#[tactic(auto, unfolding(crate::specs::Units::multiplied_by, crate::specs::Units::divided_by))]
+pub fn write(registers: &mut Registers, fetched: Fetched, pair: Pair)
+    ensures { registers.new ≡ written_by card pace (class_by (kind_of fetched.ir)) fetched.ir fetched.pc registers.old pair }
 {
+    let instruction = fetched.instruction();
     match instruction.kind() {
-        Kind::Multiply => units::complete_multiply(registers, instruction, pair),
-        Kind::Divide => units::complete_divide(registers, instruction, pair),
-        Kind::Register(operation) => operate(registers, operation, instruction),
-        Kind::Load => {}
-        Kind::Store => {}
-        Kind::Branch => keep_link(registers, instruction, pc),
+        Kind::Multiply => units::complete::<Multiplier>(registers, instruction, pair),
+        Kind::Divide => units::complete::<Divider>(registers, instruction, pair),
+        _ => effect(registers, fetched),
     }
 }
 
@@ -131,11 +134,7 @@ pub fn returns(instruction: Instruction) -> bool
 {
     match instruction.kind() {
         Kind::Branch => instruction.returns(),
-        Kind::Register(_) => false,
-        Kind::Multiply => false,
-        Kind::Divide => false,
-        Kind::Load => false,
-        Kind::Store => false,
+        _ => false,
     }
 }
 
@@ -145,11 +144,7 @@ pub fn enables(instruction: Instruction, enable: bool) -> bool
 {
     match instruction.kind() {
         Kind::Branch => instruction.enables(enable),
-        Kind::Register(_) => enable,
-        Kind::Multiply => enable,
-        Kind::Divide => enable,
-        Kind::Load => enable,
-        Kind::Store => enable,
+        _ => enable,
     }
 }
 

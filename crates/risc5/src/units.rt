@@ -1,37 +1,54 @@
-//! The multiplier and the divider at work on the registers: clock by clock, or at once.
-ghost use Rattle.std.specs.Prelude.{◌≡◌};
+//! The step units at work on the registers: clock by clock, or at once.
+ghost use Rattle.std.specs.Prelude.{◌≡◌, ℕ};
+ghost use Rattle.unit.specs.Waiting.{carried};
+ghost use Rattle.machine.specs.declared.Registers.{Registers};
 ghost use Rattle.risc5.specs.Registers.{given};
-ghost use Rattle.risc5.specs.Units.{factors, division, multiplying, dividing, multiplied_by, divided_by, multiplied, divided};
+ghost use Rattle.risc5.specs.Units.{factors, division};
 
 use isa::Instruction;
 use machine::{Registers, Waiting};
 use unit::divider::Divider;
 use unit::multiplier::Multiplier;
-use unit::{Division, Factors, Pair, StepUnit, Words, native, waiting};
+use unit::{Division, Factors, Pair, StepUnit, Words, waiting};
 
 // The clocks before a unit's first step.
 const LEAD: u16 = 0;
 
-fn factors_of(registers: &Registers, instruction: Instruction) -> Factors
-    ensures { result ≡ factors instruction.word registers.now }
-{
-    Factors {
-        first: crate::get(registers, instruction.b()),
-        second: crate::operand_of(registers, instruction),
-        signed: !instruction.u(),
+/// A step unit of the card, by what it takes from the registers for an instruction word.
+pub trait CardUnit: StepUnit<Pair = Pair, Answer = Words> {
+    ghost taken: { ℕ → Registers → Self.Operands };
+
+    fn operands(registers: &Registers, instruction: Instruction) -> Self::Operands
+        ensures { result ≡ taken instruction.word registers.now };
+}
+
+impl CardUnit for Multiplier {
+    ghost taken = { factors };
+
+    #[tactic(auto, unfolding(crate::specs::Units::factors))]
+    fn operands(registers: &Registers, instruction: Instruction) -> Factors {
+        Factors {
+            first: crate::get(registers, instruction.b()),
+            second: crate::operand_of(registers, instruction),
+            signed: !instruction.u(),
+        }
     }
 }
 
-fn division_of(registers: &Registers, instruction: Instruction) -> Division
-    ensures { result ≡ division instruction.word registers.now }
-{
-    Division {
-        dividend: crate::get(registers, instruction.b()),
-        divisor: crate::operand_of(registers, instruction),
+impl CardUnit for Divider {
+    ghost taken = { division };
+
+    #[tactic(auto, unfolding(crate::specs::Units::division))]
+    fn operands(registers: &Registers, instruction: Instruction) -> Division {
+        Division {
+            dividend: crate::get(registers, instruction.b()),
+            divisor: crate::operand_of(registers, instruction),
+        }
     }
 }
 
 // The low word goes to R.a, the high word to H.
+#[tactic(auto, unfolding(crate::specs::Registers::given))]
 fn give(registers: &mut Registers, instruction: Instruction, words: Words)
     ensures { registers.new ≡ given instruction.word registers.old words }
 {
@@ -39,49 +56,26 @@ fn give(registers: &mut Registers, instruction: Instruction, words: Words)
     crate::set(registers, instruction.a(), words.low);
 }
 
-/// The multiplier's pair after one more clock.
-pub fn multiply_clock(registers: &Registers, instruction: Instruction, waiting: Waiting) -> Pair
-    ensures { result ≡ multiplying instruction.word registers.now waiting.step waiting.pair }
+/// A unit's pair after one more clock.
+pub fn clock<U: CardUnit>(registers: &Registers, instruction: Instruction, waiting: Waiting) -> Pair
+    ensures { let operands = U.taken instruction.word registers.now in result ≡ carried (U.started operands) (U.stepped operands) U.STEPS 0 waiting.step waiting.pair }
 {
-    let factors = factors_of(registers, instruction);
-    waiting::carried::<Multiplier>(LEAD, factors, waiting.step, waiting.pair)
+    let operands = U::operands(registers, instruction);
+    waiting::carried::<U>(LEAD, operands, waiting.step, waiting.pair)
 }
 
-/// The divider's pair after one more clock.
-pub fn divide_clock(registers: &Registers, instruction: Instruction, waiting: Waiting) -> Pair
-    ensures { result ≡ dividing instruction.word registers.now waiting.step waiting.pair }
+// What a unit writes after its last clock, from the pair that this leaves.
+pub(crate) fn complete<U: CardUnit>(registers: &mut Registers, instruction: Instruction, pair: Pair)
+    ensures { registers.new ≡ given instruction.word registers.old (U.answer (U.taken instruction.word registers.old) pair) }
 {
-    let division = division_of(registers, instruction);
-    waiting::carried::<Divider>(LEAD, division, waiting.step, waiting.pair)
-}
-
-// What the multiplier writes after its last clock, from the pair that this leaves.
-pub(crate) fn complete_multiply(registers: &mut Registers, instruction: Instruction, pair: Pair)
-    ensures { registers.new ≡ multiplied_by instruction.word registers.old pair }
-{
-    let words = Multiplier::result(factors_of(registers, instruction), pair);
+    let words = U::result(U::operands(registers, instruction), pair);
     give(registers, instruction, words);
 }
 
-pub(crate) fn complete_divide(registers: &mut Registers, instruction: Instruction, pair: Pair)
-    ensures { registers.new ≡ divided_by instruction.word registers.old pair }
+// What a unit writes, at once.
+pub(crate) fn at_once<U: CardUnit>(registers: &mut Registers, instruction: Instruction)
+    ensures { registers.new ≡ given instruction.word registers.old (U.exact (U.taken instruction.word registers.old)) }
 {
-    let words = Divider::result(division_of(registers, instruction), pair);
-    give(registers, instruction, words);
-}
-
-// The product at once.
-pub(crate) fn multiply(registers: &mut Registers, instruction: Instruction)
-    ensures { registers.new ≡ multiplied instruction.word registers.old }
-{
-    let words = native::multiply(factors_of(registers, instruction));
-    give(registers, instruction, words);
-}
-
-// Quotient and rest at once.
-pub(crate) fn divide(registers: &mut Registers, instruction: Instruction)
-    ensures { registers.new ≡ divided instruction.word registers.old }
-{
-    let words = native::divide(division_of(registers, instruction));
+    let words = U::at_once(U::operands(registers, instruction));
     give(registers, instruction, words);
 }

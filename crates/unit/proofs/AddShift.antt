@@ -1,9 +1,10 @@
 -- Add and shift, at every width.
 use Rattle.std.proofs.Common.{◌≡◌, ℕ, zero, suc, ◌+◌, ◌-◌, ◌*◌, ◌/◌, ◌%◌, ◌^◌, ◌<◌, ◌≤◌, cond, eqb, ℤ, pos, ◌+ℤ◌, ◌-ℤ◌, ◌*ℤ◌, sym, ap, ◌∙◌, subst, mul_assoc, mul_comm, add-mul, mul-add, mul_left_comm, arith, lit<}
-use native.Mathlib.Nat.{pow-succ'}
+use Rattle.std.proofs.Math.Nat.{pow-succ'}
 use Rattle.std.proofs.lemmas.Nat.{mod_below}
-use lib.Arith.{digits_div, digits_mod}
-use borrow.Author.Differences.{up, down, ints, sum_is_lem, product_is, same_in}
+use Rattle.std.proofs.Math.Arith.{digits_div, digits_mod}
+use Rattle.std.proofs.lemmas.Int.{ints}
+use borrow.Author.Differences.{up, down, sum_is_lem, product_is, same_in}
 use Rattle.unit.specs.declared.Pair.{Pair}
 use Rattle.unit.specs.After.{after}
 use Rattle.unit.specs.Steps.{half, odd, total, add_shift}

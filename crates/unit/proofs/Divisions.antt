@@ -1,8 +1,8 @@
 -- What the divider gives after its 32 steps.
 use Rattle.std.proofs.Common.{◌≡◌, ℕ, zero, suc, ◌+◌, ◌-◌, ◌*◌, ◌/◌, ◌%◌, ◌^◌, ◌<◌, ◌≤◌, Bool, true, false, cond, not, T, eqb, leb, pos, sym, refl, ap, ◌∙◌, subst, mul_assoc, add-mul, arith, lit<, leb→le, pow_mono}
-use native.Mathlib.Nat.{pow-succ'}
-use lib.Arith.{digits_div, digits_mod}
-use lib.Dec.{nleb→lt}
+use Rattle.std.proofs.Math.Nat.{pow-succ'}
+use Rattle.std.proofs.Math.Arith.{digits_div, digits_mod}
+use Rattle.std.proofs.Math.Dec.{nleb→lt}
 use Rattle.std.proofs.lemmas.Bool.Decides.{nat_tests}
 use Rattle.unit.specs.declared.Words.{Words}
 use Rattle.unit.specs.declared.Division.{Division}

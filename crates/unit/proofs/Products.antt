@@ -1,8 +1,9 @@
 -- What the multiplier gives after its 32 steps.
 use Rattle.std.proofs.Common.{◌≡◌, ℕ, zero, suc, ◌+◌, ◌-◌, ◌*◌, ◌%◌, ◌^◌, ◌<◌, ◌≤◌, Bool, true, false, cond, not, ◌&&◌, T, eqb, ltb, ℤ, pos, negsuc, ◌+ℤ◌, ◌*ℤ◌, neg_ℤ, sym, refl, ap, ◌∙◌, subst, mul_comm, add-mul, mul-add, arith, ltb→lt, nltb→le, w32, to_z}
-use lib.Signed.{shr_z}
+use Rattle.std.specs.Int.Signed.{shr_z}
 use mir.Val.{sel}
-use borrow.Author.Differences.{up, down, ints, sum_is_lem, product_is, neg_is, same_in}
+use Rattle.std.proofs.lemmas.Int.{ints}
+use borrow.Author.Differences.{up, down, sum_is_lem, product_is, neg_is, same_in}
 use Rattle.std.proofs.lemmas.Bool.Decides.{nat_tests}
 use Rattle.unit.specs.declared.Pair.{Pair}
 use Rattle.unit.specs.declared.Factors.{Factors}

@@ -1,7 +1,8 @@
 //! The divider: 32 steps, each of which takes one more bit of the dividend and gives one of the quotient.
 ghost use Rattle.unit.specs.Steps.{div_start, div_step, div_answer};
+ghost use Rattle.unit.specs.Exact.{quotient, remainder};
 
-use crate::{Division, Pair, StepUnit, Words, reading};
+use crate::{Division, Pair, StepUnit, Words, native, reading};
 
 /// The unit of quotients.
 pub struct Divider;
@@ -15,7 +16,7 @@ impl StepUnit for Divider {
 
     const STEPS: u16 = 32;
 
-    ghost count = { 32 };
+    ghost STEPS = { 32 };
 
     ghost started = { div_start };
 
@@ -23,9 +24,7 @@ impl StepUnit for Divider {
 
     ghost answer = { div_answer };
 
-    fn counted() -> u16 {
-        Self::STEPS
-    }
+    ghost exact = { λ division. record { low = quotient division; high = remainder division } };
 
     fn start(operands: Division) -> Pair {
         Pair {
@@ -49,9 +48,10 @@ impl StepUnit for Divider {
     }
 
     fn result(_operands: Division, pair: Pair) -> Words {
-        Words {
-            low: pair.low,
-            high: reading::low_word(pair.high),
-        }
+        pair.words()
+    }
+
+    fn at_once(operands: Division) -> Words {
+        native::divide(operands)
     }
 }

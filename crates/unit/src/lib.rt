@@ -10,23 +10,37 @@ mod shift;
 pub mod waiting;
 
 ghost use Rattle.std.specs.Prelude.{◌≡◌, ℕ};
+ghost use Rattle.unit.specs.After.{after};
+ghost use Rattle.unit.specs.Steps.{word};
 
 /// The running pair of a multiplier or a divider: what is summed or left over, above the word that is shifted.
-#[derive(Clone, Copy)]
+#[derive(Clone, Copy, PartialEq, Eq, Debug, Default)]
 pub struct Pair {
     pub high: i64,
     pub low: u32,
 }
 
+impl Pair {
+    // The low part, and the high part modulo 2^32.
+    pub(crate) fn words(self) -> Words
+        ensures { result ≡ record { low = self.low; high = word self.high } }
+    {
+        Words {
+            low: self.low,
+            high: reading::low_word(self.high),
+        }
+    }
+}
+
 /// The two words that a unit gives: those of a product, or the quotient (low) and the rest (high).
-#[derive(Clone, Copy)]
+#[derive(Clone, Copy, PartialEq, Eq, Debug)]
 pub struct Words {
     pub low: u32,
     pub high: u32,
 }
 
 /// What a multiplier takes: two words, and whether both are read as signed.
-#[derive(Clone, Copy)]
+#[derive(Clone, Copy, PartialEq, Eq, Debug)]
 pub struct Factors {
     pub first: u32,
     pub second: u32,
@@ -34,7 +48,7 @@ pub struct Factors {
 }
 
 /// What a divider takes.
-#[derive(Clone, Copy)]
+#[derive(Clone, Copy, PartialEq, Eq, Debug)]
 pub struct Division {
     pub dividend: u32,
     pub divisor: u32,
@@ -50,7 +64,7 @@ pub trait StepUnit {
 
     const STEPS: u16;
 
-    ghost count: { ℕ };
+    ghost STEPS: { ℕ };
 
     ghost started: { Self.Operands → Self.Pair };
 
@@ -58,9 +72,7 @@ pub trait StepUnit {
 
     ghost answer: { Self.Operands → Self.Pair → Self.Answer };
 
-    /// `STEPS`, for code over any unit; clauses speak of it as `count`.
-    fn counted() -> u16
-        ensures { result ≡ count };
+    ghost exact: { Self.Operands → Self.Answer };
 
     /// The pair before the first step.
     fn start(operands: Self::Operands) -> Self::Pair
@@ -73,4 +85,9 @@ pub trait StepUnit {
     /// What the pair after the last step comes to.
     fn result(operands: Self::Operands, pair: Self::Pair) -> Self::Answer
         ensures { result ≡ answer operands pair };
+
+    /// What all the steps come to, with no step made.
+    fn at_once(operands: Self::Operands) -> Self::Answer
+        ensures exact { result ≡ exact operands }
+        ensures steps { result ≡ answer operands (after (stepped operands) (started operands) STEPS) };
 }

@@ -1,8 +1,9 @@
 //! The multiplier: 32 steps of add and shift.
 ghost use Rattle.std.specs.Prelude.{◌≡◌, ◌^◌, pos, neg_ℤ, ◌≤ℤ◌};
 ghost use Rattle.unit.specs.Steps.{addend, mul_start, mul_step, mul_answer};
+ghost use Rattle.unit.specs.Exact.{product, words_of};
 
-use crate::{Factors, Pair, StepUnit, Words, reading, shift};
+use crate::{Factors, Pair, StepUnit, Words, native, reading, shift};
 
 /// The unit of products.
 pub struct Multiplier;
@@ -25,7 +26,7 @@ impl StepUnit for Multiplier {
 
     const STEPS: u16 = 32;
 
-    ghost count = { 32 };
+    ghost STEPS = { 32 };
 
     ghost started = { mul_start };
 
@@ -33,9 +34,7 @@ impl StepUnit for Multiplier {
 
     ghost answer = { mul_answer };
 
-    fn counted() -> u16 {
-        Self::STEPS
-    }
+    ghost exact = { λ factors. words_of (product factors) };
 
     fn start(operands: Factors) -> Pair {
         Pair {
@@ -49,9 +48,10 @@ impl StepUnit for Multiplier {
     }
 
     fn result(_operands: Factors, pair: Pair) -> Words {
-        Words {
-            low: pair.low,
-            high: reading::low_word(pair.high),
-        }
+        pair.words()
+    }
+
+    fn at_once(operands: Factors) -> Words {
+        native::multiply(operands)
     }
 }

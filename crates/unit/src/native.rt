@@ -1,34 +1,19 @@
 //! Products and quotients at once: the same words as those of the steps.
-ghost use Rattle.std.specs.Prelude.{◌≡◌, true, false, ◌*ℤ◌};
+ghost use Rattle.std.specs.Prelude.{◌≡◌, ◌*ℤ◌};
 ghost use Rattle.unit.specs.After.{after};
 ghost use Rattle.unit.specs.Exact.{product, words_of, quotient, remainder};
-ghost use Rattle.unit.specs.Steps.{read, mul_start, mul_step, mul_answer, div_start, div_step, div_answer};
+ghost use Rattle.unit.specs.Steps.{mul_start, mul_step, mul_answer, div_start, div_step, div_answer};
 
 use crate::{Division, Factors, Words, reading};
 
-fn signed_product(first: u32, second: u32) -> i64
-    ensures { result ≡ read true first *ℤ read true second }
+// The words of two factors' product, from the product modulo 2^64.
+fn words(first: i64, second: i64) -> Words
+    ensures { result ≡ words_of (first *ℤ second) }
 {
-    reading::factor(true, first) * reading::factor(true, second)
-}
-
-// The two words of a number.
-fn words(z: i64) -> Words
-    ensures { result ≡ words_of z }
-{
-    Words {
-        low: reading::low_word(z),
-        high: reading::low_word(z >> 32),
-    }
-}
-
-fn unsigned_product(first: u32, second: u32) -> Words
-    ensures { result ≡ words_of (read false first *ℤ read false second) }
-{
-    let z = u64::from(first) * u64::from(second);
+    let z = first.wrapping_mul(second).cast_unsigned();
     Words {
         low: (z % 0x1_0000_0000) as u32,
-        high: (z / 0x1_0000_0000) as u32,
+        high: (z >> 32) as u32,
     }
 }
 
@@ -37,11 +22,15 @@ pub fn multiply(factors: Factors) -> Words
     ensures exact { result ≡ words_of (product factors) }
     ensures steps { result ≡ mul_answer factors (after (mul_step factors) (mul_start factors) 32) }
 {
-    if factors.signed {
-        words(signed_product(factors.first, factors.second))
-    } else {
-        unsigned_product(factors.first, factors.second)
-    }
+    let Factors {
+        first,
+        second,
+        signed,
+    } = factors;
+    words(
+        reading::factor(signed, first),
+        reading::factor(signed, second),
+    )
 }
 
 /// Quotient and rest: those that the divider's steps give. By 0 they are FFFFFFFFH and the dividend.

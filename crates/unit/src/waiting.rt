@@ -7,10 +7,10 @@ use crate::StepUnit;
 
 /// The pair after one more clock, at step number `s`, where `lead` clocks come before the unit's first step.
 pub fn carried<U: StepUnit>(lead: u16, operands: U::Operands, s: u16, pair: U::Pair) -> U::Pair
-    ensures { result ≡ carried (U.started operands) (U.stepped operands) U.count lead s pair }
+    ensures { result ≡ carried (U.started operands) (U.stepped operands) U.STEPS lead s pair }
 {
     let from = if s == 0 { U::start(operands) } else { pair };
-    if lead <= s && s - lead < U::counted() {
+    if lead <= s && s - lead < U::STEPS {
         U::step(operands, s - lead, from)
     } else {
         from
@@ -25,11 +25,12 @@ pub fn goes_on(step: u16, total: u16) -> bool
 }
 
 /// All the steps of a unit at once.
+#[tactic(auto, unfolding(crate::specs::After::after))]
 pub fn run<U: StepUnit>(operands: U::Operands) -> U::Answer
-    ensures { result ≡ U.answer operands (after (U.stepped operands) (U.started operands) U.count) }
+    ensures { result ≡ U.answer operands (after (U.stepped operands) (U.started operands) U.STEPS) }
 {
     let mut pair = U::start(operands);
-    for s in 0..U::counted() {
+    for s in 0..U::STEPS {
         pair = U::step(operands, s, pair);
     }
     U::result(operands, pair)
@@ -37,5 +38,5 @@ pub fn run<U: StepUnit>(operands: U::Operands) -> U::Answer
 
 /// The waiting serves every unit: clock by clock it makes each step once and in order, and it ends with the pair of all steps. Nothing runs here.
 pub fn waiting_serves<U: StepUnit>(operands: U::Operands)
-    ensures { Waits (U.started operands) (U.stepped operands) U.count }
+    ensures { Waits (U.started operands) (U.stepped operands) U.STEPS }
 {}

@@ -5,4 +5,4 @@ use Rattle.isa.specs.Kinds.{clocks_by, kind_at}
 use Rattle.isa.proofs.table.clocks.Goals as goal
 
 pub returns : goal.returns
-returns c = get_or-map-range_with_len (λ k. clocks_by (kind_at k)) 0 256 c.args.code c.args.code 0 (omega arith) (omega arith)
+returns c = get_or-map-range_with_len (λ k. clocks_by (kind_at k)) 0 256 c.from.result c.args.code 0 (omega arith) (omega arith)

@@ -4,4 +4,4 @@ use Rattle.unit.proofs.waiting.waiting_serves.Goals as goal
 pub returns : goal.returns
 returns g c =
     let m = g.U.StepUnit in
-    waits (m.started c.args.operands) (m.stepped c.args.operands) m.count
+    waits (m.started c.args.operands) (m.stepped c.args.operands) m.STEPS
