@@ -1,6 +1,6 @@
 -- Counts over one line more.
 use Rattle.std.proofs.Common.{◌≡◌, ℕ, ◌+◌, ◌<◌, ◌≤◌, Bool, true, false, List, [], ◌∷◌, length, get_or, take, refl, ap, ◌∙◌, add-zero, lit≤}
-use mir.Val.{bool_byte}
+use Rattle.std.specs.Int.{from_bool}
 use Rattle.std.proofs.lemmas.List.{take_more}
 use Rattle.std.proofs.lemmas.List.Sums.{fold_more}
 use Rattle.bus.specs.Meaning.{Meaning}
@@ -28,10 +28,10 @@ module _ (M : Meaning) (xs : List ℕ) (i : ℕ) (h : i < length xs) where
       ap stalls (take_more xs i 0 h) ∙ stalls-append (take i xs) (get_or xs i 0 ∷ []) ∙ ap (λ (n : ℕ). stalls (take i xs) + n) (add-zero _)
 
 -- a flag as a number
-pub byte_one : (b : Bool) → bool_byte b ≡ one b
+pub byte_one : (b : Bool) → from_bool b ≡ one b
 byte_one true = refl
 byte_one false = refl
 
-pub byte_most : (b : Bool) → bool_byte b ≤ 1
+pub byte_most : (b : Bool) → from_bool b ≤ 1
 byte_most true = lit≤ tt
 byte_most false = lit≤ tt

@@ -1,14 +1,12 @@
 -- Scanning for a share, line by line.
-use Rattle.std.proofs.Common.{◌≡◌, ℕ, zero, suc, pred, ◌+◌, ◌-◌, ◌<◌, ◌≤◌, Bool, true, false, List, [], ◌∷◌, ◌++◌, length, get_or, take, drop, Some, sym, refl, ap, ◌∙◌, append_assoc, append-nil, not-suc-le-zero, arith, length-append}
+use Rattle.std.proofs.Common.{◌≡◌, ℕ, zero, suc, ◌+◌, ◌-◌, ◌<◌, ◌≤◌, Bool, true, false, List, [], ◌∷◌, ◌++◌, length, get_or, take, drop, Some, None, sym, refl, ap, ◌∙◌, subst, append_assoc, append-nil, not-suc-le-zero, arith}
 use Rattle.std.proofs.lemmas.List.{take_more, drop_more, drop_all, length-take-le}
 use Rattle.std.proofs.lemmas.List.Sums.{fold_more}
 use Rattle.machine.specs.declared.Ticks.{Ticks}
 use Rattle.machine.specs.Lines.{stalled, noted, noted_all}
 use Rattle.machine.specs.Shares.{Cut, short, whole, behind, last_by, fewer, cut_after, ahead, ahead_by}
-use Rattle.cpu.specs.Measures.{measured, Well}
-use Rattle.machine.proofs.Cuts.{Good}
-use Rattle.machine.proofs.Waits.{ahead_le}
-use Rattle.machine.proofs.Runs.{share-stalls}
+use Rattle.cpu.specs.declared.share.Share.{Share}
+use Rattle.cpu.specs.Measures.{Measures}
 
 -- a cut of the lines left, seen from the start
 abbrev pub past : List ℕ → Cut → Cut
@@ -99,14 +97,11 @@ module _ (ls : List ℕ) (i a : ℕ) (h : i < length ls) (inv : a ≡ ahead (tak
   pub ahead_some : (a ≡ i → ⊥) → a ≡ ahead (take (i + 1) ls)
   ahead_some q = inv ∙ sym (ap ahead (take_more ls i 0 h) ∙ front_some (take i ls) _ (λ s. q (inv ∙ s ∙ size)))
 
-pub measured_last : (t : Ticks) (ls : List ℕ) (i : ℕ) (q : Ticks) (a : ℕ) (c : Cut) → i < length ls
-    → c ≡ whole (take i ls) (get_or ls i 0) (drop (i + 1) ls) → q ≡ noted_all (take i ls) t → a ≡ ahead (take i ls)
-    → Some (record { before = i; ahead = a; last = get_or ls i 0; ticks = q }) ≡ measured t c
-measured_last t ls i q a c h e p r =
-    let n : i ≡ length (take i ls) = sym (length-take-le i ls (omega arith)) in
-    (λ j. Some (record { before = n j; ahead = r j; last = get_or ls i 0; ticks = p j })) ∙ sym (ap (measured t) e)
+pub measured_last : (n : ℕ) (t : Ticks) (ls : List ℕ) (i : ℕ) (c : Cut) (x : Share) → i < length ls → c ≡ whole (take i ls) (get_or ls i 0) (drop (i + 1) ls)
+    → x.clocks ≡ n → x.before ≡ i → x.ahead ≡ ahead (take i ls) → x.last ≡ get_or ls i 0 → x.ticks ≡ noted_all (take i ls) t → Measures n t c (Some x)
+measured_last n t ls i c x h e clocks before in_front last ticks =
+    subst (λ (z : Cut). Measures n t z (Some x)) (sym e)
+    (record { clocks = clocks; before = before ∙ sym (length-take-le i ls (omega arith)); in_front = in_front; last = last; ticks = ticks })
 
-pub measured_well : (t : Ticks) (n : ℕ) (ls : List ℕ) (c : Cut) → Good (pred n) ls c → 1 ≤ n → Well ls n (measured t c)
-measured_well t n ls short g p = tt
-measured_well t n ls (whole b l left) g p =
-    (ahead_le b, omega (arith, share-stalls g.0), omega (arith, ap length g.1, length-append b (l ∷ left)))
+pub measured_none : (n : ℕ) (t : Ticks) (c : Cut) → c ≡ short → Measures n t c None
+measured_none n t c e = subst (λ (z : Cut). Measures n t z None) (sym e) tt

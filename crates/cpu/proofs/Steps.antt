@@ -1,6 +1,6 @@
 -- Each call is a step of a history.
 use Rattle.std.proofs.Common.{◌≡◌, ℕ, List, length, take, drop, None, sym, ap, ◌∙◌, subst}
-use lib.Seq.{take-append_seam}
+use Rattle.std.proofs.Math.Seq.{take-append_seam}
 use Rattle.bus.specs.Meaning.{Meaning}
 use Rattle.machine.specs.declared.Record.{Record}
 use Rattle.machine.specs.Lines.{stalls}

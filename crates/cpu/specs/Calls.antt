@@ -1,5 +1,5 @@
 -- What clocking and leaping answer and leave, and the step of a history that each of them is.
-use Rattle.std.specs.Prelude.{ℕ, ◌≤◌, cond, List, [], ◌++◌, length, take, drop, Some, None, Ok, Err, Option, Result, ◌==◌, nat_lt}
+use Rattle.std.specs.Prelude.{ℕ, if◌then◌else◌, List, [], ◌++◌, length, take, drop, Some, None, Ok, Err, Option, Result, ◌==◌, nat_lt}
 use Rattle.bus.specs.Meaning.{Meaning}
 use Rattle.refusal.specs.declared.Refusal.{Refusal}
 use Rattle.refusal.specs.Heard.{Told, refused, nothing, first_heard}
@@ -21,19 +21,14 @@ abbrev pub left_by : {X : Type 0} → Option Refusal → X → X → X
 left_by None x y = x
 left_by (Some r) x y = y
 
--- lines that are not refused are short enough
-abbrev pub ShortBy : List ℕ → Option Refusal → Type 0
-ShortBy ls (Some r) = Unit {0}
-ShortBy ls None = length ls ≤ 65535
-
 -- what is heard of some lines, by number, layer and place: 5 of more than 65,535 of them, 6 of the first line over 3
 abbrev pub lines_heard : List ℕ → Option Told
 lines_heard ls =
-    cond (nat_lt 65535 (length ls)) (refused 5 2 0) (cond (nat_lt (first_over ls) (length ls)) (refused 6 2 (first_over ls)) nothing)
+    if nat_lt 65535 (length ls) then refused 5 2 0 else if nat_lt (first_over ls) (length ls) then refused 6 2 (first_over ls) else nothing
 
 -- and of a leap: 7 of a core inside an instruction
 abbrev pub leap_heard : List ℕ → ℕ → Option Told
-leap_heard ls step = first_heard (lines_heard ls) (cond (step == 0) nothing (refused 7 2 0))
+leap_heard ls step = first_heard (lines_heard ls) (if step == 0 then nothing else refused 7 2 0)
 
 -- ---- clocking: the clock rules over all lines
 

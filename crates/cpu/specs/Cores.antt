@@ -1,5 +1,7 @@
 -- Held and live cores, and the way between them.
-use Rattle.std.specs.Prelude.{ℕ, false, cond, List, replicate, Ok, Err, Option, Result, nat_lt, slice_index, slice_set}
+use Rattle.std.specs.Prelude.{ℕ, false, List, replicate, Ok, Err, Option, Result, nat_lt, if◌then◌else◌, slice_index, slice_set}
+use Rattle.refusal.specs.declared.Refusal.{Refusal}
+use Rattle.refusal.specs.declared.Refusal.TheVariants.{RegisterNumber}
 use Rattle.refusal.specs.Heard.{Told, refused, nothing}
 use Rattle.bus.specs.Meaning.{Meaning}
 use Rattle.isa.specs.declared.Flags.{Flags}
@@ -19,18 +21,22 @@ held_with rs = record { registers = record { r = rs; h = 0; flags = down } }
 abbrev pub fresh : Held
 fresh = held_with (replicate 16 0)
 
--- a register number over 15 is refused
+-- where a register stands, of 16; a number over 15 is refused
+abbrev pub place_of : ℕ → Result ℕ Refusal
+place_of number = if nat_lt 15 number then Err RegisterNumber else Ok number
+
+-- what is heard of it
 abbrev pub register_refusal : ℕ → Option Told
-register_refusal number = cond (nat_lt 15 number) (refused 4 2 0) nothing
+register_refusal number = if nat_lt 15 number then refused 4 2 0 else nothing
 
 abbrev pub register_answer : ℕ → Held → Result ℕ Told
-register_answer number s = cond (nat_lt 15 number) (Err (record { number = 4; layer = 2; place = 0 })) (Ok (slice_index s.registers.r number))
+register_answer number s = if nat_lt 15 number then Err (record { number = 4; layer = 2; place = 0 }) else Ok (slice_index s.registers.r number)
 
 -- a preset changes one register and no flag
 abbrev pub preset_in : ℕ → ℕ → Held → Held
 preset_in number value s =
-    cond (nat_lt 15 number) s
-    (record { registers = record { r = slice_set s.registers.r number value; h = s.registers.h; flags = s.registers.flags } })
+    if nat_lt 15 number then s
+    else record { registers = record { r = slice_set s.registers.r number value; h = s.registers.h; flags = s.registers.flags } }
 
 -- Release gives a live core with these, PC 3FF800H, the word shown there in hand, and the rest 0 or down.
 abbrev pub released : Meaning → Held → List ℕ → Core

@@ -1,5 +1,5 @@
 -- What leaping keeps of a share, and what it makes of it.
-use Rattle.std.specs.Prelude.{ℕ, ◌+◌, ◌-◌, ◌≤◌, List, length, Some, None, Option}
+use Rattle.std.specs.Prelude.{◌≡◌, ℕ, ◌-◌, List, length, Some, None, Option}
 use Rattle.bus.specs.Meaning.{Meaning}
 use Rattle.machine.specs.declared.Ticks.{Ticks}
 use Rattle.machine.specs.declared.Context.{Context}
@@ -10,17 +10,22 @@ use Rattle.machine.specs.Clock.{Reached, acks, finish}
 use Rattle.machine.specs.Shares.{Cut, short, whole, ahead}
 use Rattle.machine.specs.Instructions.{ready_at}
 use Rattle.risc5.specs.Set.{card}
-use Rattle.cpu.specs.declared.leaping.Share.{Share}
+use Rattle.cpu.specs.declared.share.Share.{Share}
 
--- the lines before the last, the stalled ones in front, the last line, and the ticks before it
-abbrev pub measured : Ticks → Cut → Option Share
-measured t short = None
-measured t (whole b l ls) = Some (record { before = length b; ahead = ahead b; last = l; ticks = noted_all b t })
+-- what is kept of the share of an instruction of n clocks: its lines before the last are b, its last is l, and t are the ticks before them
+pub record IsShare (n : ℕ) (t : Ticks) (b : List ℕ) (l : ℕ) (x : Share) : Type 0 where
+  pub clocks : x.clocks ≡ n
+  pub before : x.before ≡ length b
+  pub in_front : x.ahead ≡ ahead b
+  pub last : x.last ≡ l
+  pub ticks : x.ticks ≡ noted_all b t
 
--- what is kept of a share fits the lines and the clocks
-abbrev pub Well : List ℕ → ℕ → Option Share → Type 0
-Well ls n None = Unit {0}
-Well ls n (Some x) = (x.ahead ≤ x.before) × (n ≤ x.before + 1) × (x.before + 1 ≤ length ls)
+-- what is measured of lines that are cut after its share: that share, and none if it is not whole
+abbrev pub Measures : ℕ → Ticks → Cut → Option Share → Type 0
+Measures n t short None = Unit {0}
+Measures n t short (Some x) = ⊥
+Measures n t (whole b l ls) None = ⊥
+Measures n t (whole b l ls) (Some x) = IsShare n t b l x
 
 -- the machine after the instruction in hand has run over its share
 abbrev pub after_share : Meaning → Boundary → Share → Boundary
@@ -32,13 +37,13 @@ after_share m s x =
       contents = m.passed a.contents 1;
     }
 
--- its record, with n clocks
-abbrev pub record_of : Context → Share → ℕ → Record
-record_of f x n =
+-- its record
+abbrev pub record_of : Context → Share → Record
+record_of f x =
     record {
       address = f.fetched.pc;
       word = f.fetched.ir;
-      clocks = n;
-      stalls = x.before - (n - 1);
+      clocks = x.clocks;
+      stalls = x.before - (x.clocks - 1);
       acknowledged = one (acks (with_ticks f x.ticks));
     }

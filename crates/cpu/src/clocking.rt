@@ -1,5 +1,5 @@
 //! Running a core by clock.
-ghost use Rattle.std.specs.Prelude.{◌≡◌, ◌+◌, ◌<◌, ◌≤◌, true, false, not, length};
+ghost use Rattle.std.specs.Prelude.{◌≡◌, ◌+◌, ◌<◌, true, false, not};
 ghost use Rattle.refusal.specs.Heard.{heard};
 ghost use Rattle.unit.specs.Waiting.{goes_on};
 ghost use Rattle.machine.specs.Lines.{stalls};
@@ -9,11 +9,15 @@ ghost use Rattle.risc5.specs.Set.{card, pace};
 ghost use Rattle.cpu.specs.Cores.{state};
 ghost use Rattle.cpu.specs.Calls.{lines_heard, clock_answer, clock_left, clock_call};
 
-use crate::{AT_REST, Live, checks, finishing};
+use crate::lines::Lines;
+use crate::{AT_REST, Live, finishing, line};
 use bus::Bus;
-use isa::{Instruction, Kind};
-use machine::{Fetched, Waiting};
+use isa::Kind;
+use machine::Waiting;
 use refusal::Refusal;
+use risc5::units;
+use unit::divider::Divider;
+use unit::multiplier::Multiplier;
 use unit::{Pair, waiting};
 
 impl Live {
@@ -22,7 +26,7 @@ impl Live {
         ensures core { self.new.core ≡ (held B.Bus.meaning line (state self.old (B.Bus.contents bus.old))).core }
         ensures contents { B.Bus.contents bus.new ≡ B.Bus.meaning.passed (B.Bus.contents bus.old) 1 }
     {
-        checks::note(&mut self.core.context.ticks, line);
+        line::note(&mut self.core.context.ticks, line);
         bus.pass(1);
     }
 
@@ -32,7 +36,7 @@ impl Live {
         ensures core { self.new.core ≡ (goes B.Bus.meaning card pace true line self.old.core.context (record { step = self.old.core.waiting.step + 1; pair = pair }) (B.Bus.contents bus.old)).core }
         ensures contents { B.Bus.contents bus.new ≡ B.Bus.meaning.passed (B.Bus.contents bus.old) 1 }
     {
-        checks::note(&mut self.core.context.ticks, line);
+        line::note(&mut self.core.context.ticks, line);
         self.core.waiting = Waiting {
             step: self.core.waiting.step + 1,
             pair,
@@ -45,10 +49,9 @@ impl Live {
         ensures core { self.new.core ≡ (goes B.Bus.meaning card pace false line self.old.core.context (record { step = self.old.core.waiting.step + 1; pair = pair }) (B.Bus.contents bus.old)).core }
         ensures contents { B.Bus.contents bus.new ≡ B.Bus.meaning.passed (B.Bus.contents bus.old) 1 }
     {
-        let Fetched { pc, ir } = self.core.context.fetched;
-        let instruction = Instruction { word: ir };
-        let next = risc5::next(&self.core.context.registers, instruction, pc);
-        risc5::write(&mut self.core.context.registers, instruction, pc, pair);
+        let fetched = self.core.context.fetched;
+        let next = risc5::next(&self.core.context.registers, fetched);
+        risc5::write(&mut self.core.context.registers, fetched, pair);
         finishing::finish(&mut self.core.context, bus, next, line);
         self.core.waiting = AT_REST;
     }
@@ -69,18 +72,17 @@ impl Live {
     }
 
     /// One clock, on a line whose bit 0 is the tick and whose bit 1 is the stall. Answers whether an instruction finished.
+    #[tactic(auto, unfolding(risc5::specs::Units::multiplying, risc5::specs::Units::dividing))]
     fn clock_line<B: Bus>(&mut self, bus: &mut B, line: u8) -> bool
         ensures answer { result ≡ ends B.Bus.meaning card pace line (state self.old (B.Bus.contents bus.old)) }
         ensures core { self.new.core ≡ (clock B.Bus.meaning card pace line (state self.old (B.Bus.contents bus.old))).core }
         ensures contents { B.Bus.contents bus.new ≡ (clock B.Bus.meaning card pace line (state self.old (B.Bus.contents bus.old))).contents }
     {
-        if checks::is_stalled(line) {
+        if line::is_stalled(line) {
             self.stall(bus, line);
             return false;
         }
-        let instruction = Instruction {
-            word: self.core.context.fetched.ir,
-        };
+        let instruction = self.core.context.fetched.instruction();
         let total = instruction.clocks();
         let waiting = self.core.waiting;
         match (instruction.kind(), waiting.step) {
@@ -93,36 +95,31 @@ impl Live {
                 self.go(bus, line, total, waiting.pair)
             }
             (Kind::Multiply, _) => {
-                let pair = risc5::multiply_clock(
-                    &self.core.context.registers,
-                    instruction,
-                    waiting,
-                );
+                let registers = &self.core.context.registers;
+                let pair = units::clock::<Multiplier>(registers, instruction, waiting);
                 self.go(bus, line, total, pair)
             }
             (Kind::Divide, _) => {
-                let pair = risc5::divide_clock(&self.core.context.registers, instruction, waiting);
+                let registers = &self.core.context.registers;
+                let pair = units::clock::<Divider>(registers, instruction, waiting);
                 self.go(bus, line, total, pair)
             }
-            (Kind::Load, _) => self.go(bus, line, total, waiting.pair),
-            (Kind::Store, _) => self.go(bus, line, total, waiting.pair),
-            (Kind::Register(_), _) => self.go(bus, line, total, waiting.pair),
-            (Kind::Branch, _) => self.go(bus, line, total, waiting.pair),
+            _ => self.go(bus, line, total, waiting.pair),
         }
     }
 
-    fn clock_lines<B: Bus>(&mut self, bus: &mut B, lines: &[u8]) -> (u32, u32)
-        requires { length lines.now ≤ 65535 }
-        ensures finished { result.0 ≡ finished B.Bus.meaning card pace lines.now (state self.old (B.Bus.contents bus.old)) }
-        ensures stalls { result.1 ≡ stalls lines.now }
-        ensures core { self.new.core ≡ (run B.Bus.meaning card pace lines.now (state self.old (B.Bus.contents bus.old))).core }
-        ensures contents { B.Bus.contents bus.new ≡ (run B.Bus.meaning card pace lines.now (state self.old (B.Bus.contents bus.old))).contents }
+    fn clock_lines<B: Bus>(&mut self, bus: &mut B, lines: Lines) -> (u32, u32)
+        ensures finished { result.0 ≡ finished B.Bus.meaning card pace lines.entry.bytes.now (state self.old (B.Bus.contents bus.old)) }
+        ensures stalls { result.1 ≡ stalls lines.entry.bytes.now }
+        ensures core { self.new.core ≡ (run B.Bus.meaning card pace lines.entry.bytes.now (state self.old (B.Bus.contents bus.old))).core }
+        ensures contents { B.Bus.contents bus.new ≡ (run B.Bus.meaning card pace lines.entry.bytes.now (state self.old (B.Bus.contents bus.old))).contents }
     {
+        // One loop for both counts, so that each line is looked at once.
         let mut done = 0;
         let mut stalled = 0;
-        for line in lines {
-            done += self.clock_line(bus, *line) as u32;
-            stalled += checks::is_stalled(*line) as u32;
+        for line in lines.as_slice() {
+            done += u32::from(self.clock_line(bus, *line));
+            stalled += u32::from(line::is_stalled(*line));
         }
         (done, stalled)
     }
@@ -135,9 +132,7 @@ impl Live {
         ensures refusal { heard result ≡ lines_heard lines.now }
         ensures step { Did B.Bus.meaning card pace (state self.old (B.Bus.contents bus.old)) (clock_call lines.now result) (state self.new (B.Bus.contents bus.new)) }
     {
-        match checks::lines_fault(lines) {
-            Some(refusal) => Err(refusal),
-            None => Ok(self.clock_lines(bus, lines)),
-        }
+        let lines = Lines::checked(lines)?;
+        Ok(self.clock_lines(bus, lines))
     }
 }

@@ -1,10 +1,12 @@
 //! The core of the card: held and live, run by clock and by whole instructions.
 #![tactic(auto)]
 
-mod checks;
 mod clocking;
 mod finishing;
 mod leaping;
+mod line;
+mod lines;
+mod share;
 
 ghost use Rattle.std.specs.Prelude.{◌≡◌};
 ghost use Rattle.bus.specs.Meaning.{Meaning};
@@ -12,7 +14,7 @@ ghost use Rattle.refusal.specs.Heard.{heard, outcome};
 ghost use Rattle.machine.specs.State.{Boundary, live};
 ghost use Rattle.machine.specs.Laws.{EndsByTheClockRules, EndsByTheInstructionMachine, TellsEveryInstruction, LinesAreClocksAndStalls, EqualEndsUnderOtherStalls, Law};
 ghost use Rattle.risc5.specs.Set.{card, pace};
-ghost use Rattle.cpu.specs.Cores.{held_with, fresh, register_refusal, register_answer, preset_in, released, held_of, state};
+ghost use Rattle.cpu.specs.Cores.{held_with, fresh, register_refusal, register_answer, place_of, preset_in, released, held_of, state};
 
 use bus::Bus;
 use isa::Flags;
@@ -35,6 +37,16 @@ const AT_REST: Waiting = Waiting {
     step: 0,
     pair: Pair { high: 0, low: 0 },
 };
+
+// Where a register stands. Refuses a number over 15.
+fn place(number: u32) -> Result<usize, Refusal>
+    ensures { result ≡ place_of number }
+{
+    if number > 15 {
+        return Err(Refusal::RegisterNumber);
+    }
+    Ok(number as usize)
+}
 
 /// A core that is held: its registers can be preset and read, and it takes no clock.
 #[derive(Drop)]
@@ -74,10 +86,7 @@ impl Held {
         ensures answer { heard result ≡ register_refusal number }
         ensures core { self.new ≡ preset_in number value self.old }
     {
-        if number > 15 {
-            return Err(Refusal::RegisterNumber);
-        }
-        self.registers.r[number as usize] = value;
+        self.registers.r[place(number)?] = value;
         Ok(())
     }
 
@@ -85,10 +94,7 @@ impl Held {
     pub fn register(&self, number: u32) -> Result<u32, Refusal>
         ensures { outcome result ≡ register_answer number self.now }
     {
-        if number > 15 {
-            return Err(Refusal::RegisterNumber);
-        }
-        Ok(self.registers.r[number as usize])
+        Ok(self.registers.r[place(number)?])
     }
 
     pub fn h(&self) -> u32

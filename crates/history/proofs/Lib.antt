@@ -1,4 +1,2 @@
 pub mod Parts
-pub mod Records
 pub mod Playing
-pub mod Stepping

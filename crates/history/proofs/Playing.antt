@@ -1,7 +1,8 @@
 -- One request more.
-use Rattle.std.proofs.Common.{◌≡◌, ℕ, ◌+◌, ◌-◌, ◌<◌, ◌≤◌, List, [], ◌∷◌, ◌++◌, length, take, drop, set, Ok, Err, sym, refl, ap, ◌∙◌, ap₂, add-zero, add_assoc, zero-add, arith, length-drop, take-add}
-use native.Mathlib.Nat.{sub-zero}
-use Rattle.std.proofs.lemmas.List.{take-append-le, drop-append-le, take_more_set, take-take, length-take-le, drop-set-lt, drop-drop}
+use Rattle.std.proofs.Common.{◌≡◌, ℕ, ◌+◌, ◌-◌, ◌<◌, ◌≤◌, List, [], ◌∷◌, ◌++◌, length, get_or, take, drop, set, Ok, Err, sym, refl, ap, ◌∙◌, ap₂, arith, length-take, length-drop, take-add}
+use Rattle.std.proofs.Math.Nat.{sub-zero}
+use Rattle.std.proofs.lemmas.List.Sums.{sum_by-cons, sum_by_push}
+use Rattle.std.proofs.lemmas.List.{map-append, take-append-le, drop-append-le, take_more, take_more_set, take-take, length-take-le, drop-set-lt, drop-drop}
 use Rattle.bus.specs.Meaning.{Meaning}
 use Rattle.machine.specs.declared.Record.{Record}
 use Rattle.machine.specs.State.{State}
@@ -38,6 +39,7 @@ calls_more room ls [] (y ∷ xs) rs new q x e w = absurd (omega arith)
 calls_more room ls (p ∷ qs) [] rs new q x e w = absurd (omega arith)
 calls_more room ls (p ∷ qs) (y ∷ xs) rs new q x e w =
     let k : ℕ = wrote y in
+    let all : k + wrote_all xs ≡ length rs = sym (sum_by-cons wrote y xs) ∙ w in
     let le : k ≤ length rs = omega arith in
     let n : length qs ≡ length xs = omega arith in
     let v : wrote_all xs ≡ length (drop k rs) = omega (arith, length-drop k rs) in
@@ -47,26 +49,21 @@ calls_more room ls (p ∷ qs) (y ∷ xs) rs new q x e w =
     ∙ calls_more (room - k) ls qs xs (drop k rs) new q x n v
     ∙ ap (λ (i : ℕ). calls_of (room - k) ls qs xs (drop k rs) ++ (call_of (part_of ls q) i new x ∷ [])) room-left)
 
-wrote_more : (xs : List Answer) (x : Answer) → wrote_all (xs ++ (x ∷ [])) ≡ wrote_all xs + wrote x
-wrote_more [] x = add-zero (wrote x) ∙ sym (zero-add (wrote x))
-wrote_more (y ∷ xs) x = ap (λ (n : ℕ). wrote y + n) (wrote_more xs x) ∙ sym (add_assoc (wrote y) (wrote_all xs) (wrote x))
-
-given_more : (xs : List Answer) (x : Answer) → given (xs ++ (x ∷ [])) ≡ given xs ++ (way_of x ∷ [])
-given_more [] x = refl
-given_more (y ∷ xs) x = ap {B = List Way} (λ r. way_of y ∷ r) (given_more xs x)
-
-asked_more : (qs : List Request) (q : Request) → asked (qs ++ (q ∷ [])) ≡ asked qs ++ (q.way ∷ [])
-asked_more [] q = refl
-asked_more (p ∷ qs) q = ap {B = List Way} (λ r. p.way ∷ r) (asked_more qs q)
+-- an item more of a part in front is an item more of the whole
+pub take_more_of : {X : Type 0} (xs : List X) (m i : ℕ) (d : X) → i < length (take m xs) → take (i + 1) xs ≡ take i xs ++ (get_or (take m xs) i d ∷ [])
+take_more_of xs m i d h =
+    let le : i ≤ m = omega (arith, length-take m xs) in
+    let next : i + 1 ≤ m = omega (arith, length-take m xs) in
+    sym (take-take (i + 1) m xs next) ∙ take_more (take m xs) i d h ∙ ap (λ r. r ++ (get_or (take m xs) i d ∷ [])) (take-take i m xs le)
 
 module _ (xs : List Answer) (i : ℕ) (x : Answer) (h : i < length xs) where
   pub wrote_on : (n : ℕ) → wrote_all (take i xs) ≡ n → wrote_all (take (i + 1) (set xs i x)) ≡ n + wrote x
-  wrote_on n e = ap wrote_all (take_more_set xs i x h) ∙ wrote_more (take i xs) x ∙ ap (λ (k : ℕ). k + wrote x) e
+  wrote_on n e = ap wrote_all (take_more_set xs i x h) ∙ sum_by_push wrote (take i xs) x ∙ ap (λ (k : ℕ). k + wrote x) e
 
   pub given_on : (qs : List Request) (q : Request) → take (i + 1) qs ≡ take i qs ++ (q ∷ []) → given (take i xs) ≡ asked (take i qs) → way_of x ≡ q.way
       → given (take (i + 1) (set xs i x)) ≡ asked (take (i + 1) qs)
   given_on qs q p e w =
-      ap given (take_more_set xs i x h) ∙ given_more (take i xs) x ∙ ap₂ (λ (r : List Way) (y : Way). r ++ (y ∷ [])) e w ∙ sym (ap asked p ∙ asked_more (take i qs) q)
+      ap given (take_more_set xs i x h) ∙ map-append way_of (take i xs) (x ∷ []) ∙ ap₂ (λ (r : List Way) (y : Way). r ++ (y ∷ [])) e w ∙ sym (ap asked p ∙ map-append (λ (r : Request). r.way) (take i qs) (q ∷ []))
 
   -- the answers that are not written yet
   pub left_on : (ys : List Answer) → drop i xs ≡ drop i ys → drop (i + 1) (set xs i x) ≡ drop (i + 1) ys

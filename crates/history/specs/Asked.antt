@@ -1,5 +1,5 @@
 -- What is asked of a live core, what it answers, and the history that requests and answers make.
-use Rattle.std.specs.Prelude.{ℕ, ◌+◌, ◌-◌, List, [], ◌∷◌, take, drop, Ok, Err, Result}
+use Rattle.std.specs.Prelude.{ℕ, ◌-◌, List, [], ◌∷◌, take, drop, map, sum_by, Ok, Err, Result}
 use Rattle.refusal.specs.declared.Refusal.{Refusal}
 use Rattle.machine.specs.declared.Record.{Record}
 use Rattle.machine.specs.Histories.{Call}
@@ -29,8 +29,7 @@ wrote (Clocked r) = 0
 wrote (Leapt r) = wrote_by r
 
 abbrev pub wrote_all : List Answer → ℕ
-wrote_all [] = 0
-wrote_all (x ∷ xs) = wrote x + wrote_all xs
+wrote_all = sum_by wrote
 
 -- One call, from its lines, the room for records, the records from its first on, and its answer.
 abbrev pub call_of : List ℕ → ℕ → List Record → Answer → Call
@@ -45,9 +44,7 @@ calls_of room ls (q ∷ qs) (x ∷ xs) rs = call_of (part_of ls q) room rs x ∷
 
 -- the ways that requests ask for, and those of the answers
 abbrev pub asked : List Request → List Way
-asked [] = []
-asked (q ∷ qs) = q.way ∷ asked qs
+asked = map (λ q. q.way)
 
 abbrev pub given : List Answer → List Way
-given [] = []
-given (x ∷ xs) = way_of x ∷ given xs
+given = map way_of

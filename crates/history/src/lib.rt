@@ -16,14 +16,14 @@ use machine::Record;
 use refusal::Refusal;
 
 /// How a request is to be met.
-#[derive(Clone, Copy)]
+#[derive(Clone, Copy, PartialEq, Eq, Debug)]
 pub enum Way {
     ByClock,
     ByLeap,
 }
 
 /// What is asked of a live core: to take `count` of the lines, from the line `first` on, by clock or by leap.
-#[derive(Clone, Copy)]
+#[derive(Clone, Copy, PartialEq, Eq, Debug)]
 pub struct Request {
     pub way: Way,
     pub first: usize,
@@ -31,20 +31,19 @@ pub struct Request {
 }
 
 /// What it answered.
-#[derive(Clone, Copy)]
+#[derive(Clone, Copy, PartialEq, Eq, Debug)]
 pub enum Answer {
     Clocked(Result<(u32, u32), Refusal>),
     Leapt(Result<(u32, u32, u32), Refusal>),
 }
 
 // The lines of a request.
-fn part<'a>(lines: &'a [u8], request: Request) -> &'a [u8]
+fn part(lines: &[u8], request: Request) -> &[u8]
     ensures { result.now ≡ part_of lines.now request }
 {
-    let first = request.first.min(lines.len());
-    let rest = lines.split_at(first).1;
+    let rest = lines.get(request.first..).unwrap_or(&[]);
     let count = request.count.min(rest.len());
-    rest.split_at(count).0
+    &rest[..count]
 }
 
 impl Answer {
@@ -54,8 +53,7 @@ impl Answer {
     {
         match self {
             Answer::Leapt(Ok((_, written, _))) => written as usize,
-            Answer::Leapt(Err(_)) => 0,
-            Answer::Clocked(_) => 0,
+            Answer::Leapt(Err(_)) | Answer::Clocked(_) => 0,
         }
     }
 }
@@ -92,14 +90,7 @@ fn ask_behind<B: Bus>(
     ask(live, bus, lines, way, &mut trace[records..])
 }
 
-// A request by its place.
-fn request_at(requests: &[Request], at: usize) -> Request
-    requires { at < length requests.now }
-    ensures { take (at + 1) requests.now ≡ take at requests.now ++ (result ∷ []) }
-{
-    requests[at]
-}
-
+// The buffers are the caller's, so that nothing is allocated and no call fails; their counts are told here.
 /// A history that was played: the core at its end, how many requests were met, and how many records were written.
 #[derive(Drop)]
 pub struct Played {
@@ -127,21 +118,19 @@ pub fn play<B: Bus>(
     ensures kept { Kept B.Bus.meaning (start B.Bus.meaning held (B.Bus.contents bus.old)) (calls_of (length trace.old) lines.now (take result.met requests.now) (take result.met answers.new) (take result.records trace.new)) (state result.live (B.Bus.contents bus.new)) }
 {
     let mut live = held.release(bus);
-    let mut met = 0;
+    let met = requests.len().min(answers.len());
     let mut records = 0;
-    let most = requests.len().min(answers.len());
-    while met < most {
-        let request = request_at(requests, met);
+    for (at, request) in requests[..met].iter().enumerate() {
         let answer = ask_behind(
             &mut live,
             bus,
-            part(lines, request),
+            part(lines, *request),
             request.way,
             trace,
             records,
         );
-        answers[met] = answer;
-        met += 1;
+        // By its place: what a zip with `iter_mut` wrote is not known to a proof once the loop has ended.
+        answers[at] = answer;
         records += answer.records();
     }
     Played { live, met, records }

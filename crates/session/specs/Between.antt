@@ -1,5 +1,5 @@
 -- A core between its release and its next hold.
-use Rattle.std.specs.Prelude.{ℕ, cond, List, Err, Result, nat_lt, slice_index}
+use Rattle.std.specs.Prelude.{ℕ, if◌then◌else◌, List, Err, Result, nat_lt, slice_index}
 use Rattle.bus.specs.Meaning.{Meaning}
 use Rattle.refusal.specs.Heard.{Told, outcome}
 use Rattle.machine.specs.State.{State}
@@ -22,8 +22,8 @@ contents_after m ls s h = (clock_left m ls (begun m s h)).contents
 -- a new core with one register preset: that register after some lines, and the contents of the bus then
 abbrev pub register_after : Meaning → List ℕ → ℕ → ℕ → List ℕ → Result ℕ Told
 register_after m ls number value h =
-    cond (nat_lt 15 number) (Err (record { number = 4; layer = 2; place = 0 }))
-    (outcome (answer_by (lines_refused ls) (slice_index (held_after m ls (preset_in number value fresh) h).registers.r number)))
+    if nat_lt 15 number then Err (record { number = 4; layer = 2; place = 0 })
+    else outcome (answer_by (lines_refused ls) (slice_index (held_after m ls (preset_in number value fresh) h).registers.r number))
 
 abbrev pub contents_with : Meaning → List ℕ → ℕ → ℕ → List ℕ → List ℕ
-contents_with m ls number value h = cond (nat_lt 15 number) h (contents_after m ls (preset_in number value fresh) h)
+contents_with m ls number value h = if nat_lt 15 number then h else contents_after m ls (preset_in number value fresh) h

@@ -1,22 +1,18 @@
-use Rattle.std.proofs.Common.{◌≡◌, ◌-◌, ◌≤◌, length, take, drop}
+use Rattle.std.proofs.Common.{◌≡◌, ◌≤◌, length, take, drop}
 use Rattle.machine.specs.Histories.{After}
 use Rattle.risc5.specs.Set.{card, pace}
 use Rattle.cpu.specs.Cores.{state}
 use Rattle.history.specs.Asked.{wrote_all, calls_of, asked, given}
 use Rattle.history.proofs.play.Given as goal
 
-abbrev pub invariant-loop-met : goal.invariant-loop-met
-invariant-loop-met g l =
-    (l.met ≤ length l.requests)
-    × (l.met ≤ length l.initial.answers)
-    × (l.records ≤ length l.initial.trace)
-    × (wrote_all (take l.met l.answers) ≡ l.records)
-    × (drop l.met l.answers ≡ drop l.met l.initial.answers)
-    × (drop l.records l.trace ≡ drop l.records l.initial.trace)
-    × (given (take l.met l.answers) ≡ asked (take l.met l.requests))
-    × After g.B.Bus.meaning card pace (state l.initial.live (g.B.Bus.contents l.initial.bus))
-    (calls_of (length l.initial.trace) l.lines (take l.met l.requests) (take l.met l.answers) (take l.records l.trace))
-    (state l.live (g.B.Bus.contents l.bus))
-
-abbrev pub decreases-loop-met : goal.decreases-loop-met
-decreases-loop-met g l = length l.requests - l.met
+abbrev pub invariant-loop-at : goal.invariant-loop-at
+invariant-loop-at g l = record {
+  room : l.records ≤ length l.initial.trace;
+  records : wrote_all (take l.at l.answers) ≡ l.records;
+  answers : drop l.at l.answers ≡ drop l.at l.initial.answers;
+  trace : drop l.records l.trace ≡ drop l.records l.initial.trace;
+  ways : given (take l.at l.answers) ≡ asked (take l.at l.requests);
+  history : After g.B.Bus.meaning card pace (state l.initial.live (g.B.Bus.contents l.initial.bus))
+      (calls_of (length l.initial.trace) l.lines (take l.at l.requests) (take l.at l.answers) (take l.records l.trace))
+      (state l.live (g.B.Bus.contents l.bus));
+}

@@ -14,7 +14,7 @@ loop-line-init g c = (omega arith, omega arith, refl, refl, refl)
 pub loop-line-preserved : goal.loop-line-preserved
 loop-line-preserved g c =
     let m = g.B.Bus.meaning in
-    let xs = c.args.lines.now in
+    let xs = c.as_slice-line-items.result.now in
     let i = c.loop-line.line-index in
     let h : i < length xs = c.loop-line-test.true in
     let x : ℕ = get_or xs i 0 in
@@ -22,20 +22,20 @@ loop-line-preserved g c =
     let inv = c.loop-line.invariant in
     let e : state c.clock_line.new.self (g.B.Bus.contents c.clock_line.new.bus) ≡ clock m card pace x (state c.loop-line.self (g.B.Bus.contents c.loop-line.bus)) =
     λ j. record { core = c.clock_line.ensures.core j; contents = c.clock_line.ensures.contents j } in (
-      omega (arith, inv.0, byte_most c.clock_line.result),
-      omega (arith, inv.1, byte_most c.is_stalled.result),
+      omega (arith, inv.0, c.from-done.ensures, byte_most c.clock_line.result),
+      omega (arith, inv.1, c.from-stalled.ensures, byte_most c.is_stalled.result),
       e ∙ ap (clock m card pace x) inv.2 ∙ sym (run_more m xs i h s),
-      ap₂ ◌+◌ inv.3 (byte_one c.clock_line.result ∙ ap one (c.clock_line.ensures.answer ∙ ap (ends m card pace x) inv.2)) ∙ sym (finished_more m xs i h s),
-      ap₂ ◌+◌ inv.4 (byte_one c.is_stalled.result ∙ ap one c.is_stalled.ensures) ∙ sym (stalls_more m xs i h),
+      ap₂ ◌+◌ inv.3 (c.from-done.ensures ∙ byte_one c.clock_line.result ∙ ap one (c.clock_line.ensures.answer ∙ ap (ends m card pace x) inv.2)) ∙ sym (finished_more m xs i h s),
+      ap₂ ◌+◌ inv.4 (c.from-stalled.ensures ∙ byte_one c.is_stalled.result ∙ ap one c.is_stalled.ensures) ∙ sym (stalls_more m xs i h),
     )
 
 pub returns : goal.returns
 returns g c =
     let m = g.B.Bus.meaning in
-    let xs = c.args.lines.now in
+    let xs = c.args.lines.bytes.now in
     let s : State = state c.args.self.now (g.B.Bus.contents c.args.bus.now) in
     let inv = c.loop-line.invariant in
-    let all : take c.loop-line.line-index xs ≡ xs = take_all _ xs c.loop-line-test.false in
+    let all : take c.loop-line.line-index c.as_slice-line-items.result.now ≡ xs = take_all _ c.as_slice-line-items.result.now c.loop-line-test.false ∙ c.as_slice-line-items.ensures in
     let e = inv.2 ∙ ap (λ ls. run m card pace ls s) all in
     record {
       finished = inv.3 ∙ ap (λ ls. finished m card pace ls s) all;

@@ -11,6 +11,6 @@ invariant-loop-line g l =
     let s = state l.initial.self (g.B.Bus.contents l.initial.bus) in
     (l.done ≤ l.line-index)
     × (l.stalled ≤ l.line-index)
-    × (state l.self (g.B.Bus.contents l.bus) ≡ run m card pace (take l.line-index l.lines) s)
-    × (l.done ≡ finished m card pace (take l.line-index l.lines) s)
-    × (l.stalled ≡ stalls (take l.line-index l.lines))
+    × (state l.self (g.B.Bus.contents l.bus) ≡ run m card pace (take l.line-index l.line-items) s)
+    × (l.done ≡ finished m card pace (take l.line-index l.line-items) s)
+    × (l.stalled ≡ stalls (take l.line-index l.line-items))
