@@ -1,7 +1,5 @@
 pub mod Scans
 pub mod Writing
-pub mod Clipping
-pub mod Applying
 pub mod Counting
 pub mod Storing
 pub mod Lasting

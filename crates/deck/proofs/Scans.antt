@@ -1,6 +1,6 @@
 -- What a field's columns can have shown is below ten to their number.
 use Rattle.std.proofs.Common.{ℕ, ◌+◌, ◌-◌, ◌*◌, ◌^◌, ◌<◌, ◌≤◌, add-one, arith, rules}
-use native.Mathlib.Nat.{pow-succ', pow-le-pow_right}
+use Rattle.std.proofs.Math.Nat.{pow-succ', pow-le-pow_right}
 use Rattle.deck.specs.declared.field.Seen.{Seen}
 use Rattle.deck.specs.declared.field.Seen.TheVariants.{Blanks, Zero, Number, Wrong}
 use Rattle.deck.specs.Field.{digit, after, Small}

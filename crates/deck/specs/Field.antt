@@ -1,15 +1,15 @@
 -- What number the columns of a field say, told twice: by reading them from the left, and by how the number is written.
-use Rattle.std.specs.Prelude.{◌≡◌, ℕ, ◌+◌, ◌-◌, ◌*◌, ◌^◌, ◌<◌, ◌≤◌, cond, List, ◌++◌, length, replicate, Some, None, decimal, fold, Option, ◌==◌, nat_le}
+use Rattle.std.specs.Prelude.{◌≡◌, ℕ, ◌+◌, ◌-◌, ◌*◌, ◌^◌, ◌<◌, ◌≤◌, if◌then◌else◌, List, ◌++◌, length, replicate, Some, None, decimal, fold, Option, ◌==◌, nat_le}
 use Rattle.deck.specs.declared.field.Seen.{Seen}
 use Rattle.deck.specs.declared.field.Seen.TheVariants.{Blanks, Zero, Number, Wrong}
 
 -- where a digit is due: the bytes 48 to 57 are the digits, any other is wrong
 abbrev pub digit : ℕ → Seen → Seen
-digit b s = cond (nat_le 48 b) (cond (nat_le b 57) s Wrong) Wrong
+digit b s = if nat_le 48 b then (if nat_le b 57 then s else Wrong) else Wrong
 
 -- one byte more, from the left: blanks (byte 32) first, then a lone 0 or digits of which the first is not 0, then no more
 abbrev pub after : Seen → ℕ → Seen
-after Blanks b = cond (b == 32) Blanks (cond (b == 48) Zero (digit b (Number (b - 48))))
+after Blanks b = if b == 32 then Blanks else if b == 48 then Zero else digit b (Number (b - 48))
 after (Number n) b = digit b (Number (10 * n + (b - 48)))
 after Zero b = Wrong
 after Wrong b = Wrong

@@ -1,5 +1,5 @@
 -- What holds of every deck, in the words of its rows.
-use Rattle.std.specs.Prelude.{◌≡◌, ℕ, ◌+◌, ◌<◌, Bool, true, false, cond, ◌&&◌, ◌||◌, List, [], ◌∷◌, ◌++◌, length, is_ok, Some, None, Ok, Err, Option, ◌==◌, nat_lt, slice_index, slice_index_or}
+use Rattle.std.specs.Prelude.{◌≡◌, ℕ, ◌+◌, ◌<◌, Bool, true, false, if◌then◌else◌, ◌&&◌, ◌||◌, List, [], ◌∷◌, ◌++◌, length, is_ok, Some, None, Ok, Err, Option, ◌==◌, nat_lt, slice_index, slice_index_or}
 use Rattle.refusal.specs.Heard.{Told, refused, nothing}
 use Rattle.deck.specs.declared.rows.Deed.{Deed}
 use Rattle.deck.specs.Field.{parse}
@@ -32,7 +32,7 @@ low bound None = true
 
 -- the bounds of the two numbers of a row by its letter, over a memory of so many words: W (byte 87), R (82) and else L (76)
 abbrev pub bounds : ℕ → ℕ → ℕ × ℕ
-bounds words letter = cond (letter == 87) (words, 4294967296) (cond (letter == 82) (16, 4294967296) (4, 65536))
+bounds words letter = if letter == 87 then (words, 4294967296) else if letter == 82 then (16, 4294967296) else (4, 65536)
 
 abbrev pub known : ℕ → Bool
 known letter = letter == 87 || (letter == 82 || letter == 76)
@@ -40,9 +40,9 @@ known letter = letter == 87 || (letter == 82 || letter == 76)
 -- the lowest number that a row's faults have, but for the room of its lines: 9 for its form, 10 for either field, 11 for either number
 abbrev pub fault_of : ℕ → ℕ × ℕ → Bool → Option ℕ → Option ℕ → Option Told
 fault_of row limits formed first second =
-    cond formed
-    (cond (written first && written second) (cond (low limits.0 first && low limits.1 second) nothing (refused 11 3 row)) (refused 10 3 row))
-    (refused 9 3 row)
+    if formed
+    then (if written first && written second then (if low limits.0 first && low limits.1 second then nothing else refused 11 3 row) else refused 10 3 row)
+    else refused 9 3 row
 
 -- Of a row's faults the lowest is told, and a row without a fault is accepted.
 abbrev pub LowestTold : Type 0

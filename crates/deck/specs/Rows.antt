@@ -1,5 +1,5 @@
 -- What a row of a deck says: its deed, or why it is refused.
-use Rattle.std.specs.Prelude.{ℕ, ◌+◌, ◌*◌, ◌/◌, ◌%◌, ◌<◌, Bool, cond, ◌&&◌, List, length, take, drop, Some, None, Ok, Err, Option, Result, ◌==◌, nat_le, nat_lt, slice_index}
+use Rattle.std.specs.Prelude.{ℕ, ◌+◌, ◌*◌, ◌/◌, ◌%◌, ◌<◌, Bool, if◌then◌else◌, ◌&&◌, List, length, take, drop, Some, None, Ok, Err, Option, Result, ◌==◌, nat_le, nat_lt, slice_index}
 use Rattle.refusal.specs.Heard.{Told}
 use Rattle.deck.specs.declared.rows.Field.{Field}
 use Rattle.deck.specs.declared.rows.Deed.{Deed}
@@ -47,7 +47,7 @@ second_field bs row = field_of row (parse (columns bs row 9 10))
 
 -- a number that is not below its bound is refused with 11
 abbrev pub within : ℕ → Field → Result ℕ Told
-within bound f = cond (nat_lt f.number bound) (Ok f.number) (refused_at 11 f.row)
+within bound f = if nat_lt f.number bound then Ok f.number else refused_at 11 f.row
 
 -- the numbers of the two fields, each below its bound; both fields are read before a bound is asked
 abbrev pub numbers : List ℕ → ℕ → ℕ → ℕ → Result (ℕ × ℕ) Told
@@ -61,14 +61,14 @@ deed_of deed r = and_then r (λ n. Ok (deed n.0 n.1))
 -- W (byte 87) sets the word at an address, R (82) presets a register, L (76) adds lines; another letter is refused with 9
 abbrev pub lettered : List ℕ → ℕ → ℕ → ℕ → Result Deed Told
 lettered bs words row letter =
-    cond (letter == 87) (deed_of Sets (numbers bs row words 4294967296))
-    (cond (letter == 82) (deed_of Presets (numbers bs row 16 4294967296))
-    (cond (letter == 76) (deed_of Adds (numbers bs row 4 65536))
-    (refused_at 9 row)))
+    if letter == 87 then deed_of Sets (numbers bs row words 4294967296)
+    else if letter == 82 then deed_of Presets (numbers bs row 16 4294967296)
+    else if letter == 76 then deed_of Adds (numbers bs row 4 65536)
+    else refused_at 9 row
 
 -- what a row says over a memory of so many words; without its newline (byte 10) it is refused with 9
 abbrev pub row_says : List ℕ → ℕ → ℕ → Result Deed Told
-row_says bs words row = cond (column bs row 19 == 10) (lettered bs words row (column bs row 0)) (refused_at 9 row)
+row_says bs words row = if column bs row 19 == 10 then lettered bs words row (column bs row 0) else refused_at 9 row
 
 -- a deed stays within a memory of so many words and the 16 registers
 abbrev pub Fits : ℕ → Deed → Type 0

@@ -3,7 +3,7 @@ ghost use Rattle.std.specs.Prelude.{◌≡◌, ◌^◌, ◌≤◌, length};
 ghost use Rattle.deck.specs.Field.{after, Small, said, parse, ReadsAsWritten};
 
 // What the columns of a field so far have shown.
-#[derive(Clone, Copy)]
+#[derive(Clone, Copy, PartialEq, Eq, Debug)]
 enum Seen {
     Blanks,
     Zero,
@@ -15,19 +15,12 @@ fn next(seen: Seen, byte: u8) -> Seen
     requires { Small seen (10 ^ 10) }
     ensures { result ≡ after seen byte }
 {
-    match seen {
-        Seen::Blanks => match byte {
-            b' ' => Seen::Blanks,
-            b'0' => Seen::Zero,
-            b'1'..=b'9' => Seen::Number(u64::from(byte - b'0')),
-            _ => Seen::Wrong,
-        },
-        Seen::Number(n) => match byte {
-            b'0'..=b'9' => Seen::Number(10 * n + u64::from(byte - b'0')),
-            _ => Seen::Wrong,
-        },
-        Seen::Zero => Seen::Wrong,
-        Seen::Wrong => Seen::Wrong,
+    match (seen, byte) {
+        (Seen::Blanks, b' ') => Seen::Blanks,
+        (Seen::Blanks, b'0') => Seen::Zero,
+        (Seen::Blanks, b'1'..=b'9') => Seen::Number(u64::from(byte - b'0')),
+        (Seen::Number(n), b'0'..=b'9') => Seen::Number(10 * n + u64::from(byte - b'0')),
+        _ => Seen::Wrong,
     }
 }
 
@@ -37,8 +30,7 @@ fn answer(seen: Seen) -> Option<u64>
     match seen {
         Seen::Zero => Some(0),
         Seen::Number(n) => Some(n),
-        Seen::Blanks => None,
-        Seen::Wrong => None,
+        Seen::Blanks | Seen::Wrong => None,
     }
 }
 
@@ -48,6 +40,7 @@ pub(crate) fn number(columns: &[u8]) -> Option<u64>
     ensures { result ≡ parse columns.now }
 {
     let mut seen = Seen::Blanks;
+    // Not a fold: its closure would not know that the number so far is small, as `next` requires.
     for byte in columns {
         seen = next(seen, *byte);
     }

@@ -1,6 +1,5 @@
 //! Loading a deck: all of it or nothing.
-ghost use Rattle.std.specs.Prelude.{◌≡◌, ◌+◌, ◌≤◌, true, length, replicate, is_ok};
-ghost use Rattle.std.proofs.Math.Seq.{paste};
+ghost use Rattle.std.specs.Prelude.{◌≡◌, ◌<◌, ◌≤◌, ◌++◌, true, length, drop, is_ok};
 ghost use Rattle.refusal.specs.Heard.{outcome};
 ghost use Rattle.deck.specs.Rows.{Fits};
 ghost use Rattle.deck.specs.Decks.{lines_of, room_for, all_deeds, deck_says, counted};
@@ -13,14 +12,31 @@ use refusal::Refusal;
 /// The most lines that a deck adds.
 pub const MOST_LINES: usize = 65_535;
 
-// How many lines a deed adds.
-fn lines_of(deed: Deed) -> u16
-    ensures { result ≡ length (lines_of deed) }
-{
-    match deed {
-        Deed::Sets(_, _) => 0,
-        Deed::Presets(_, _) => 0,
-        Deed::Adds(_, count) => count,
+impl Deed {
+    // How many lines a deed adds.
+    fn lines(self) -> usize
+        ensures value { result ≡ length (lines_of self) }
+        ensures few { result < 65536 }
+    {
+        match self {
+            Deed::Adds(_, count) => usize::from(count),
+            _ => 0,
+        }
+    }
+
+    // Does what a deed asks for; its lines go to the front of those that are free.
+    // The places written stay parameters of their own: a struct of `&mut`s would add a clause for each, that it is still the same reference.
+    fn apply(self, words: &mut [u32], registers: &mut [u32; 16], free: &mut [u8])
+        requires { (Fits (length words.old) self) × (length (lines_of self) ≤ length free.old) }
+        ensures words { words.new ≡ placed words.old (word_of self) }
+        ensures registers { registers.new ≡ placed registers.old (register_of self) }
+        ensures lines { free.new ≡ lines_of self ++ drop (length (lines_of self)) free.old }
+    {
+        match self {
+            Deed::Sets(address, word) => words[address] = word,
+            Deed::Presets(register, value) => registers[register] = value,
+            Deed::Adds(value, count) => free[..usize::from(count)].fill(value),
+        }
     }
 }
 
@@ -29,59 +45,20 @@ fn lines_with(deed: Deed, row: u32, used: usize, room: usize) -> Result<usize, R
     requires { used ≤ 65535 }
     ensures { outcome result ≡ room_for room row used deed }
 {
-    let total = used + lines_of(deed) as usize;
+    let total = used + deed.lines();
     if total > room.min(MOST_LINES) {
         return Err(Refusal::LinesFull(row));
     }
     Ok(total)
 }
 
-// Writes so many equal lines from a place on.
-fn fill(lines: &mut [u8], from: usize, count: u16, value: u8)
-    requires { from + count ≤ length lines.old }
-    ensures { lines.new ≡ paste lines.old from (replicate count value) count }
-{
-    let end = from + count as usize;
-    lines[from..end].fill(value);
-}
-
-// Does what a deed asks for, where `used` lines stand, and answers how many then stand.
-fn apply(
-    deed: Deed,
-    words: &mut [u32],
-    registers: &mut [u32; 16],
-    lines: &mut [u8],
-    used: usize,
-) -> usize
-    requires { (Fits (length words.old) deed) × (used + length (lines_of deed) ≤ length lines.old) }
-    ensures words { words.new ≡ placed words.old (word_of deed) }
-    ensures registers { registers.new ≡ placed registers.old (register_of deed) }
-    ensures lines { lines.new ≡ paste lines.old used (lines_of deed) (length (lines_of deed)) }
-    ensures used { result ≡ used + length (lines_of deed) }
-{
-    match deed {
-        Deed::Sets(address, word) => {
-            words[address] = word;
-            used
-        }
-        Deed::Presets(register, value) => {
-            registers[register] = value;
-            used
-        }
-        Deed::Adds(value, count) => {
-            fill(lines, used, count, value);
-            used + count as usize
-        }
-    }
-}
-
 impl Deck<'_> {
     // How many lines the deck's rows add, or the refusal of its first faulty row. Nothing is written.
     fn check(&self, words: usize, room: usize) -> Result<usize, Refusal>
-        requires { length self.now.bytes.now ≤ 65520 }
         ensures { outcome result ≡ counted (all_deeds self.now.bytes.now words room) }
     {
         let mut used = 0;
+        // By number and not by an iterator over rows, since a row's number is also the place that its refusal tells.
         for row in 0..self.rows() as u32 {
             let deed = self.deed(row, words)?;
             used = lines_with(deed, row, used, room)?;
@@ -91,16 +68,18 @@ impl Deck<'_> {
 
     // Does what each row asks for, in the rows' order, once all are known to be without fault.
     fn write(&self, words: &mut [u32], registers: &mut [u32; 16], lines: &mut [u8])
-        requires { (length self.now.bytes.now ≤ 65520) × (is_ok (all_deeds self.now.bytes.now (length words.old) (length lines.old)) ≡ true) }
+        requires { is_ok (all_deeds self.now.bytes.now (length words.old) (length lines.old)) ≡ true }
         ensures words { words.new ≡ words_after (all_deeds self.now.bytes.now (length words.old) (length lines.old)) words.old }
         ensures registers { registers.new ≡ registers_after (all_deeds self.now.bytes.now (length words.old) (length lines.old)) registers.old }
         ensures lines { lines.new ≡ lines_after (all_deeds self.now.bytes.now (length words.old) (length lines.old)) lines.old }
     {
+        // A count beside the buffer: of a rest that shrinks by `split_at_mut` in a loop, a proof knows only the length once the loop has ended.
         let mut used = 0;
         for row in 0..self.rows() as u32 {
-            if let Ok(deed) = self.deed(row, words.len()) {
-                used = apply(deed, words, registers, lines, used);
-            }
+            let deed = self.deed(row, words.len()).unwrap();
+            let (_, free) = lines.split_at_mut(used);
+            deed.apply(words, registers, free);
+            used += deed.lines();
         }
     }
 }

@@ -22,7 +22,7 @@ const LINE_BOUND: u64 = 4;
 const COUNT_BOUND: u64 = 65_536;
 
 /// What a row asks for.
-#[derive(Clone, Copy)]
+#[derive(Clone, Copy, PartialEq, Eq, Debug)]
 pub enum Deed {
     /// The word at an address of memory is set: address, word.
     Sets(usize, u32),
@@ -33,7 +33,7 @@ pub enum Deed {
 }
 
 /// The number in a field, with the place of its row.
-#[derive(Clone, Copy)]
+#[derive(Clone, Copy, PartialEq, Eq, Debug)]
 pub struct Field {
     /// The row, counted from 0.
     pub row: u32,
@@ -55,16 +55,17 @@ impl Field {
     }
 }
 
-/// A deck's bytes, read row by row.
-#[derive(Clone, Copy)]
+/// A deck's bytes, read row by row: whole rows, and not too many.
+#[derive(Clone, Copy, PartialEq, Eq, Debug)]
 pub struct Deck<'a> {
     bytes: &'a [u8],
+    pub ghost in_rows: { whole bytes.now ≡ true },
 }
 
 impl<'a> Deck<'a> {
     /// A deck over these bytes, if they are whole rows and not too many.
     pub fn new(bytes: &'a [u8]) -> Result<Deck<'a>, Refusal>
-        ensures { MatchResult result (λ d. (whole bytes.now ≡ true) × (d.bytes.now ≡ bytes.now)) (λ e. (whole bytes.now ≡ false) × (told e ≡ record { number = 8; layer = 3; place = 0 })) }
+        ensures { MatchResult result (λ d. d.bytes.now ≡ bytes.now) (λ e. (whole bytes.now ≡ false) × (told e ≡ record { number = 8; layer = 3; place = 0 })) }
     {
         if bytes.len() > MOST_BYTES || bytes.len() % ROW != 0 {
             return Err(Refusal::DeckSize);
@@ -84,17 +85,15 @@ impl<'a> Deck<'a> {
         requires { at < 20 }
         ensures { result ≡ column self.now.bytes.now row at }
     {
-        match self.bytes.get(ROW * row as usize + at) {
-            Some(byte) => *byte,
-            None => 0,
-        }
+        let place = ROW * row as usize + at;
+        self.bytes.get(place).copied().unwrap_or(0)
     }
 
     /// The letter of a row, and NUL past the deck's end.
     pub fn letter(&self, row: u32) -> char
         ensures { result ≡ column self.now.bytes.now row 0 }
     {
-        self.byte(row, 0) as char
+        char::from(self.byte(row, 0))
     }
 
     // So many columns of a row, from one on; fewer at the deck's end.
@@ -103,9 +102,9 @@ impl<'a> Deck<'a> {
         ensures value { result.now ≡ columns self.now.bytes.now row from len }
         ensures size { length result.now ≤ len }
     {
-        let start = (ROW * row as usize + from).min(self.bytes.len());
-        let (_, rest) = self.bytes.split_at(start);
-        &rest[0..len.min(rest.len())]
+        let start = ROW * row as usize + from;
+        let rest = self.bytes.get(start..).unwrap_or(&[]);
+        rest.get(..len).unwrap_or(rest)
     }
 
     // The field in so many columns of a row.
@@ -113,10 +112,8 @@ impl<'a> Deck<'a> {
         requires { (from + len ≤ 20) × (len ≤ 10) }
         ensures { outcome result ≡ field_of row (parse (columns self.now.bytes.now row from len)) }
     {
-        match field::number(self.columns(row, from, len)) {
-            Some(number) => Ok(Field { row, number }),
-            None => Err(Refusal::FieldForm(row)),
-        }
+        let number = field::number(self.columns(row, from, len)).ok_or(Refusal::FieldForm(row))?;
+        Ok(Field { row, number })
     }
 
     /// The first field of a row. A row past the deck's end has none.

@@ -18,9 +18,10 @@ use deck::loading::load;
 use machine::Record;
 use refusal::Refusal;
 use std::alloc::{AllocError, Global};
+use std::fmt;
 
 /// Why a deck was not run.
-#[derive(Clone, Copy, Drop)]
+#[derive(Clone, Copy, PartialEq, Eq, Debug, Drop)]
 pub enum Failure {
     /// The deck is refused.
     Refused(Refusal),
@@ -28,6 +29,18 @@ pub enum Failure {
     Memory,
 }
 
+impl fmt::Display for Failure {
+    fn fmt<W: fmt::Write>(&self, f: &mut fmt::Formatter<W>) -> fmt::Result {
+        match self {
+            Self::Refused(refusal) => write!(f, "{refusal}"),
+            Self::Memory => write!(f, "there is no memory for the card's words"),
+        }
+    }
+}
+
+impl std::error::Error for Failure {}
+
+// Written by hand, since a derived `From` would not say in a contract which failure it gives.
 impl From<Refusal> for Failure {
     ghost from_gives = { λ e r. r ≡ Refused e };
 
@@ -44,6 +57,7 @@ impl From<AllocError> for Failure {
     }
 }
 
+// Lines and trace are lent apart, here and below, as the caller holds them: a struct of them would be taken apart again at each call.
 // Releases a core with these registers over a bus and leaps once.
 fn leap_once<B: Bus>(
     bus: &mut B,
@@ -99,7 +113,7 @@ fn run_over(
 /// three numbers: lines used, records written into `trace`, and 1 exactly if a share remained but no room for its record. A refused deck changes
 /// neither `lines` nor `trace`, nor does want of memory.
 pub fn run(
-    heap: Global,
+    alloc: Global,
     deck: &[u8],
     lines: &mut [u8],
     trace: &mut [Record],
@@ -109,7 +123,7 @@ pub fn run(
     ensures trace { trace.new ≡ unless_wanting result (overlaid (records_of (length trace.old) (said deck.now (length lines.old))) trace.old) trace.old }
     ensures history { IfOk result (λ a. Ran deck.now (length lines.old) (length trace.old) trace.new a) }
 {
-    let words = vec![in heap; 0; STANDARD_WORDS]?;
+    let words = vec![in alloc; 0; STANDARD_WORDS]?;
     let answer = run_over(words, deck, lines, trace)?;
     Ok(answer)
 }

@@ -6,70 +6,48 @@
 //! In a text `\n` is a newline and `\xHH` the byte with these two hexadecimal digits.
 #![tactic(auto)]
 
-use anyhow::anyhow;
+ghost use Rattle.std.specs.Prelude.{◌≤◌, length};
+ghost use Rattle.std.specs.Str.Iter.{bytes_rest};
+
+use anyhow::{Context, bail};
 use deck::loading::load;
-use std::alloc::AllocError;
+use std::alloc::{AllocError, Global};
 use std::io;
+use std::str::Bytes;
 
 // More bytes than any deck may have, so that no case takes more.
 const MOST_BYTES: usize = 70_000;
 
-// How far an escaped byte has been read.
-#[derive(Clone, Copy)]
-enum Escape {
-    No,
-    Begun,
-    High,
-    Low(u8),
-}
-
+// A hexadecimal digit, in capitals.
 fn digit(byte: u8) -> Option<u8> {
-    match byte {
-        b'0'..=b'9' => Some(byte - b'0'),
-        b'A'..=b'F' => Some(byte - b'A' + 10),
-        _ => None,
+    if byte.is_ascii_lowercase() {
+        return None;
     }
+    let digit = char::from(byte).to_digit(16)?;
+    u8::try_from(digit).ok()
 }
 
-// Where a hexadecimal digit is due; a byte that is none begins again.
-fn high(byte: u8) -> Escape {
-    match digit(byte) {
-        Some(d) => Escape::Low(d),
-        None => Escape::No,
-    }
-}
-
-fn low(high: u8, byte: u8) -> Option<u8> {
-    match digit(byte) {
-        Some(d) => Some(high.wrapping_mul(16).wrapping_add(d)),
-        None => None,
-    }
-}
-
-// The byte that a text says here, if it says one, and how far an escape has been read then.
-fn step(escape: Escape, byte: u8) -> (Option<u8>, Escape) {
-    match escape {
-        Escape::No => match byte {
-            b'\\' => (None, Escape::Begun),
-            _ => (Some(byte), Escape::No),
-        },
-        Escape::Begun => match byte {
-            b'x' => (None, Escape::High),
-            b'n' => (Some(b'\n'), Escape::No),
-            _ => (Some(byte), Escape::No),
-        },
-        Escape::High => (None, high(byte)),
-        Escape::Low(high) => (low(high, byte), Escape::No),
+// The byte that an escape says by what follows its backslash, if it says one.
+fn escaped(rest: &mut Bytes<'_>) -> Option<u8>
+    ensures { length (bytes_rest rest.new) ≤ length (bytes_rest rest.old) }
+{
+    match rest.next()? {
+        b'x' => {
+            let high = digit(rest.next()?)?;
+            let low = digit(rest.next()?)?;
+            Some(high << 4 | low)
+        }
+        b'n' => Some(b'\n'),
+        byte => Some(byte),
     }
 }
 
 fn push_text(bytes: &mut Vec<u8>, text: &str) -> Result<(), AllocError> {
-    let mut escape = Escape::No;
-    for byte in text.bytes() {
-        let (said, next) = step(escape, byte);
-        escape = next;
-        if let Some(byte) = said {
-            bytes.push(byte)?;
+    let mut rest = text.bytes();
+    while let Some(byte) = rest.next() {
+        match byte {
+            b'\\' => bytes.extend(escaped(&mut rest))?,
+            _ => bytes.push(byte)?,
         }
     }
     Ok(())
@@ -77,9 +55,9 @@ fn push_text(bytes: &mut Vec<u8>, text: &str) -> Result<(), AllocError> {
 
 // A part of a case, COUNT*TEXT.
 fn push_part(bytes: &mut Vec<u8>, part: &str) -> anyhow::Result<()> {
-    let Some((count, text)) = part.split_once('*') else {
-        return Err(anyhow!("a part of a case is COUNT*TEXT"));
-    };
+    let (count, text) = part
+        .split_once('*')
+        .context("a part of a case is COUNT*TEXT")?;
     for _ in 0..count.parse::<u16>()? {
         if bytes.len() < MOST_BYTES {
             push_text(bytes, text)?;
@@ -89,7 +67,7 @@ fn push_part(bytes: &mut Vec<u8>, part: &str) -> anyhow::Result<()> {
 }
 
 // Each value that is not 0, with its place.
-fn show_set(rt: &HostRuntime, name: &str, values: &[u32]) -> io::Result<()> {
+fn show_set(rt: &impl Print, name: &str, values: &[u32]) -> io::Result<()> {
     print!(rt; "; {name}")?;
     for (place, value) in values.iter().enumerate() {
         if *value != 0 {
@@ -99,77 +77,73 @@ fn show_set(rt: &HostRuntime, name: &str, values: &[u32]) -> io::Result<()> {
     Ok(())
 }
 
-fn show_run(rt: &HostRuntime, value: u8, count: u32) -> io::Result<()> {
-    if count > 0 {
-        print!(rt; " {value}*{count}")?;
-    }
-    Ok(())
-}
-
 // Lines as runs of equal ones.
-fn show_lines(rt: &HostRuntime, lines: &[u8]) -> io::Result<()> {
+fn show_lines(rt: &impl Print, lines: &[u8]) -> io::Result<()> {
     print!(rt; "; lines")?;
-    let mut value = 0;
-    let mut count = 0u32;
-    for line in lines {
-        if *line != value {
-            show_run(rt, value, count)?;
-            value = *line;
-            count = 0;
+    for run in lines.chunk_by(|a, b| a == b) {
+        if let Some(value) = run.first() {
+            print!(rt; " {value}*{}", run.len())?;
         }
-        count = count.saturating_add(1);
     }
-    show_run(rt, value, count)?;
     println!(rt)
 }
 
-fn run_case(
-    rt: &HostRuntime,
-    label: &str,
+// A row of the table: a deck, and over how many words and lines it is loaded.
+#[derive(Drop)]
+struct Case<'a> {
+    label: &'a str,
     words: u16,
     lines: u16,
-    deck: &[u8],
-) -> anyhow::Result<()> {
-    let mut memory = vec![in rt.alloc(); 0u32; words as usize]?;
-    let mut registers = [0u32; 16];
-    let mut buffer = vec![in rt.alloc(); 255u8; lines as usize]?;
-    match load(deck, &mut memory, &mut registers, &mut buffer) {
-        Ok(count) => print!(rt; "{label}: loaded {count} lines")?,
-        Err(refusal) => {
-            let number = refusal.number();
-            let place = refusal.place();
-            let layer = refusal.layer();
-            print!(rt; "{label}: refused {number} {place} {layer}")?;
+    deck: Vec<u8>,
+}
+
+impl<'a> Case<'a> {
+    fn read(alloc: Global, text: &'a str) -> anyhow::Result<Case<'a>> {
+        let mut parts = text.split(';');
+        let (Some(label), Some(words), Some(lines)) = (parts.next(), parts.next(), parts.next())
+        else {
+            bail!("a case is LABEL;WORDS;LINES;COUNT*TEXT;..");
+        };
+        let mut deck = Vec::new(alloc);
+        for part in parts {
+            push_part(&mut deck, part)?;
         }
+        Ok(Case {
+            label,
+            words: words.parse()?,
+            lines: lines.parse()?,
+            deck,
+        })
     }
-    show_set(rt, "words", &memory)?;
-    show_set(rt, "registers", &registers)?;
-    show_lines(rt, &buffer)?;
-    Ok(())
+
+    // Loads the deck and tells what it leaves.
+    fn run(&self, rt: &(impl Print + AllocGlobal)) -> anyhow::Result<()> {
+        let mut memory = vec![in rt.alloc(); 0u32; usize::from(self.words)]?;
+        let mut registers = [0u32; 16];
+        let mut buffer = vec![in rt.alloc(); 255u8; usize::from(self.lines)]?;
+        print!(rt; "{}: ", self.label)?;
+        match load(&self.deck, &mut memory, &mut registers, &mut buffer) {
+            Ok(count) => print!(rt; "loaded {count} lines")?,
+            Err(refusal) => {
+                print!(rt;
+                    "refused {} {} {}",
+                    refusal.number(),
+                    refusal.place(),
+                    refusal.layer()
+                )?
+            }
+        }
+        show_set(rt, "words", &memory)?;
+        show_set(rt, "registers", &registers)?;
+        show_lines(rt, &buffer)?;
+        Ok(())
+    }
 }
 
-fn read_case(rt: &HostRuntime, text: &str) -> anyhow::Result<()> {
-    let mut parts = text.split(';');
-    let (Some(label), Some(words), Some(lines)) = (parts.next(), parts.next(), parts.next()) else {
-        return Err(anyhow!("a case is LABEL;WORDS;LINES;COUNT*TEXT;.."));
-    };
-    let mut deck: Vec<u8> = Vec::new(rt.alloc());
-    for part in parts {
-        push_part(&mut deck, part)?;
-    }
-    run_case(
-        rt,
-        label,
-        words.parse::<u16>()?,
-        lines.parse::<u16>()?,
-        &deck,
-    )
-}
-
-fn run(rt: &HostRuntime) -> anyhow::Result<()> {
+fn run(rt: &(impl Print + Input + AllocGlobal)) -> anyhow::Result<()> {
     for text in rt.lines(rt.alloc()) {
         let text = text?;
-        read_case(rt, text.as_str())?;
+        Case::read(rt.alloc(), text.as_str())?.run(rt)?;
     }
     Ok(())
 }

@@ -2,7 +2,6 @@
 //! deck, the refusal.
 #![tactic(auto)]
 
-use anyhow::anyhow;
 use deck_run::Failure;
 use machine::Record;
 use refusal::Refusal;
@@ -17,16 +16,8 @@ const LINES: usize = 65_535;
 
 const RECORDS: usize = 1_024;
 
-const NO_RECORD: Record = Record {
-    address: 0,
-    word: 0,
-    clocks: 0,
-    stalls: 0,
-    acknowledged: 0,
-};
-
 // Address, word, clocks, stalled lines, and 1 if an interrupt was acknowledged.
-fn show_record(rt: &HostRuntime, record: Record) -> io::Result<()> {
+fn show_record(rt: &impl Print, record: Record) -> io::Result<()> {
     let Record {
         address,
         word,
@@ -37,7 +28,7 @@ fn show_record(rt: &HostRuntime, record: Record) -> io::Result<()> {
     println!(rt; "{address:>8}{word:>11}{clocks:>3}{stalls:>6}{acknowledged:>2}")
 }
 
-fn show_answer(rt: &HostRuntime, answer: (u32, u32, u32), trace: &[Record]) -> io::Result<()> {
+fn show_answer(rt: &impl Print, answer: (u32, u32, u32), trace: &[Record]) -> io::Result<()> {
     let (used, written, more) = answer;
     for record in trace.iter().take(written as usize) {
         show_record(rt, *record)?;
@@ -45,32 +36,28 @@ fn show_answer(rt: &HostRuntime, answer: (u32, u32, u32), trace: &[Record]) -> i
     println!(rt; "{written:>8}{used:>11}{more:>3}")
 }
 
-fn show_refusal(rt: &HostRuntime, refusal: Refusal) -> io::Result<()> {
-    let number = refusal.number();
-    let place = refusal.place();
-    let layer = refusal.layer();
-    println!(rt; "{number:>8}{place:>11}{layer:>3}")
+fn show_refusal(rt: &impl Print, refusal: Refusal) -> io::Result<()> {
+    println!(rt;
+        "{:>8}{:>11}{:>3}",
+        refusal.number(),
+        refusal.place(),
+        refusal.layer()
+    )
 }
 
-fn run(rt: &HostRuntime) -> anyhow::Result<()> {
+fn run(rt: &(impl Print + Input + AllocGlobal)) -> anyhow::Result<()> {
     let mut deck: Vec<u8> = Vec::new(rt.alloc());
-    rt.stdin().take(MOST_BYTES).read_to_end(&mut deck)?;
+    rt.reader().take(MOST_BYTES).read_to_end(&mut deck)?;
     let mut lines = vec![in rt.alloc(); 0u8; LINES]?;
-    let mut trace = vec![in rt.alloc(); NO_RECORD; RECORDS]?;
+    let mut trace = vec![in rt.alloc(); Record::default(); RECORDS]?;
     match deck_run::run(rt.alloc(), &deck, &mut lines, &mut trace) {
         Ok(answer) => show_answer(rt, answer, &trace)?,
         Err(Failure::Refused(refusal)) => show_refusal(rt, refusal)?,
-        Err(Failure::Memory) => return Err(anyhow!("there is no memory for the card's words")),
+        Err(failure) => return Err(failure.into()),
     }
     Ok(())
 }
 
 fn main(rt: HostRuntime) -> ExitCode {
-    match run(&rt) {
-        Ok(()) => ExitCode::SUCCESS,
-        Err(error) => {
-            let _told = eprintln!(rt; "run_deck: {error}");
-            ExitCode::FAILURE
-        }
-    }
+    ending::of(&rt, "run_deck", run(&rt))
 }

@@ -2,16 +2,15 @@ use Rattle.std.proofs.Common.{◌≡◌, ℕ, List, length, ap, ◌∙◌, subst
 use Rattle.machine.specs.declared.Record.{Record}
 use Rattle.machine.specs.State.{State}
 use Rattle.machine.specs.Histories.{Did, then, none}
-use Rattle.machine.specs.Laws.{Law}
 use Rattle.risc5.specs.Set.{card, pace}
 use Rattle.cpu.specs.declared.Held.{Held}
 use Rattle.cpu.specs.Cores.{released, state}
-use Rattle.cpu.specs.Calls.{leap_answer, leap_records, overlaid, leap_call}
+use Rattle.cpu.specs.Calls.{leap_call}
 use Rattle.deck_run.specs.Runs.{start_with}
 use Rattle.deck_run.proofs.leap_once.Goals as goal
 
-pub returns : goal.returns
-returns g c =
+pub returns-clause-history : goal.returns-clause-history
+returns-clause-history g c =
     let m = g.B.Bus.meaning in
     let h : List ℕ = g.B.Bus.contents c.args.bus.now in
     let ls : List ℕ = c.args.lines.now in
@@ -21,21 +20,6 @@ returns g c =
     λ i. record { core = (live.ensures.core ∙ ap (λ (x : Held). released m x h) c.with_registers.ensures) i; contents = h } in
     let end : State = state c.leap.new.self (g.B.Bus.contents c.leap.new.bus) in
     record {
-      answer = c.leap.ensures.answer ∙ ap (leap_answer m (length t) ls) start;
-      trace = c.leap.ensures.trace ∙ ap (λ (s : State). overlaid (leap_records m (length t) ls s) t) start;
-      history =
-          record {
-            end = end;
-            history =
-                then (subst (λ (s : State). Did m card pace s (leap_call ls (length t) c.leap.new.trace c.leap.result) end) start c.leap.ensures.step) none;
-          };
-      law =
-          subst (λ (s : State). Law m card pace s) start
-          (record {
-            ends_by_the_clock_rules = live.ensures.ends_by_the_clock_rules;
-            ends_by_the_instruction_machine = live.ensures.ends_by_the_instruction_machine;
-            tells_every_instruction = live.ensures.tells_every_instruction;
-            lines_are_clocks_and_stalls = live.ensures.lines_are_clocks_and_stalls;
-            equal_ends_under_other_stalls = live.ensures.equal_ends_under_other_stalls;
-          });
+      end = end;
+      history = then (subst (λ (s : State). Did m card pace s (leap_call ls (length t) c.leap.new.trace c.leap.result) end) start c.leap.ensures.step) none;
     }

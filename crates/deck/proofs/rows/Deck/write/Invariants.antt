@@ -6,4 +6,9 @@ use Rattle.deck.proofs.rows.Deck.write.Given as goal
 abbrev pub invariant-loop-row : goal.invariant-loop-row
 invariant-loop-row l =
     let deeds = first_deeds l.self.bytes.now (length l.initial.words) (length l.initial.lines) l.row in
-    (counted deeds ≡ Ok l.used) × (l.words ≡ words_after deeds l.initial.words) × (l.registers ≡ registers_after deeds l.initial.registers) × (l.lines ≡ lines_after deeds l.initial.lines)
+    record {
+      used : counted deeds ≡ Ok l.used;
+      words : l.words ≡ words_after deeds l.initial.words;
+      registers : l.registers ≡ registers_after deeds l.initial.registers;
+      lines : l.lines ≡ lines_after deeds l.initial.lines;
+    }
