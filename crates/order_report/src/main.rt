@@ -11,7 +11,7 @@ fn tell_store(rt: &impl Print, address: u32, byte: u8) -> io::Result<()> {
     print!(rt;
         "   byte address {address}: byte {byte:>3} goes as {word:08X}H to word address {at}, marks "
     )?;
-    for mark in [marks.b0, marks.b1, marks.b2, marks.b3] {
+    for mark in <[bool; 4]>::from(marks) {
         print!(rt; "{mark}", mark = u8::from(mark))?;
     }
     println!(rt)
@@ -24,7 +24,7 @@ fn tell_stores(rt: &impl Print, field: Field) -> io::Result<()> {
     println!(rt;
         "   Each byte is stored under its own mark alone (marks are listed byte 0 first):"
     )?;
-    for (address, byte) in [field.b0, field.b1, field.b2, field.b3].iter().enumerate() {
+    for (address, byte) in <[u8; 4]>::from(field).iter().enumerate() {
         tell_store(rt, address as u32, *byte)?;
     }
     Ok(())

@@ -1,14 +1,20 @@
 //! The house's checking program on the card: it reads the quantity, compares it with the house's limit and stores its verdict. It is run by clock and
 //! by leap, over the same lines.
+ghost use Rattle.std.specs.Prelude.{◌≡◌, ◌≤◌, length, sum_by};
+ghost use Rattle.order_runs.specs.Verdicts.{Reads};
+
 use bus::Bus;
 use card::{Card, STANDARD_WORDS};
 use cpu::Held;
-use history::watching::{Watched, watch};
+use history::watching::watch;
 use history::{Answer, Request, Way, play};
 use isa::Flags;
 use machine::Record;
-use order::{Field, store_byte};
+use order::{Field, store_field_at};
+use refusal::Refusal;
 use std::alloc::{AllocError, Global};
+use std::error::Error;
+use std::{array, fmt};
 
 /// The largest quantity that the house passes on.
 pub const LIMIT: u32 = 10_000;
@@ -24,15 +30,7 @@ const LIMIT_AT: usize = 65;
 const VERDICT_AT: u32 = 66;
 
 // The register that the program reads the quantity into.
-const QUANTITY_IN: u32 = 2;
-
-const NO_RECORD: Record = Record {
-    address: 0,
-    word: 0,
-    clocks: 0,
-    stalls: 0,
-    acknowledged: 0,
-};
+const QUANTITY_IN: usize = 2;
 
 /// Reads the quantity by one word load.
 pub static BY_WORD: [u32; 14] = [
@@ -79,188 +77,226 @@ pub static BY_BYTES: [u32; 23] = [
     0xE73F_FFFF, // 22: stay here
 ];
 
-/// What a core and its card had at the end of a run.
-#[derive(Clone, Copy)]
-pub struct End {
+/// The verdict of the house on an order.
+#[derive(Clone, Copy, PartialEq, Eq, Debug)]
+pub enum Verdict {
+    Passed,
+    OverTheLimit,
+}
+
+/// A word that is no verdict.
+#[derive(Clone, Copy, PartialEq, Eq, Debug)]
+pub struct NoVerdict(pub u32);
+
+/// The verdict that a word stands for, as the house's programs store it.
+impl TryFrom<u32> for Verdict {
+    type Error = NoVerdict;
+
+    ghost try_from_gives = { Reads };
+
+    fn try_from(word: u32) -> Result<Verdict, NoVerdict> {
+        match word {
+            1 => Ok(Verdict::Passed),
+            2 => Ok(Verdict::OverTheLimit),
+            _ => Err(NoVerdict(word)),
+        }
+    }
+}
+
+impl fmt::Display for Verdict {
+    fn fmt<W: fmt::Write>(&self, f: &mut fmt::Formatter<W>) -> fmt::Result {
+        match self {
+            Verdict::Passed => write!(f, "passed"),
+            Verdict::OverTheLimit => write!(f, "refused, over the limit"),
+        }
+    }
+}
+
+impl fmt::Display for NoVerdict {
+    fn fmt<W: fmt::Write>(&self, f: &mut fmt::Formatter<W>) -> fmt::Result {
+        write!(f, "There is no verdict yet")
+    }
+}
+
+impl Error for NoVerdict {}
+
+/// What a run comes to, by clock or by leap: the instructions, and what the core and its card had at the end.
+#[derive(Clone, Copy, PartialEq, Eq, Debug)]
+pub struct Outcome {
+    pub instructions: u32,
     pub registers: [u32; 16],
     pub h: u32,
     pub flags: Flags,
-    pub verdict: u32,
+    pub verdict: Result<Verdict, NoVerdict>,
 }
 
-/// A run by clock: what clocking told, added up over its calls.
-#[derive(Clone, Copy)]
+/// A run by clock: the stalls that clocking told, added up over its calls.
+#[derive(Clone, Copy, PartialEq, Eq, Debug)]
 pub struct ByClock {
-    pub instructions: u32,
     pub stalls: u32,
-    pub end: End,
+    pub outcome: Outcome,
 }
 
-/// A run by leap: what leaping told, and the clocks and stalls of its records added up.
-#[derive(Clone, Copy)]
-pub struct ByLeap {
-    pub instructions: u32,
-    pub lines: u32,
+/// The clocks, stalls and acknowledged ticks of records, added up.
+#[derive(Clone, Copy, PartialEq, Eq, Debug)]
+pub struct Totals {
     pub clocks: u64,
     pub stalls: u64,
     pub acknowledged: u64,
-    pub end: End,
 }
 
-impl End {
-    /// The quantity that the program read.
-    pub fn quantity(self) -> u32 {
-        self.registers[QUANTITY_IN as usize]
+/// A run by leap: the lines that leaping used, and what its records tell.
+#[derive(Clone, Copy, PartialEq, Eq, Debug)]
+pub struct ByLeap {
+    pub lines: u32,
+    pub totals: Totals,
+    pub outcome: Outcome,
+}
+
+impl Totals {
+    fn of(records: &[Record]) -> Totals
+        requires { length records.now ≤ LINES }
+        ensures clocks { result.clocks ≡ sum_by (λ finished. finished.clocks) records.now }
+        ensures stalls { result.stalls ≡ sum_by (λ finished. finished.stalls) records.now }
+        ensures acknowledged { result.acknowledged ≡ sum_by (λ finished. finished.acknowledged) records.now }
+    {
+        Totals {
+            clocks: records.iter().map(|record| u64::from(record.clocks)).sum(),
+            stalls: records.iter().map(|record| u64::from(record.stalls)).sum(),
+            acknowledged: records
+                .iter()
+                .map(|record| u64::from(record.acknowledged))
+                .sum(),
+        }
+    }
+}
+
+impl Outcome {
+    fn new(instructions: u32, held: &Held, card: &Card) -> Result<Outcome, Refusal> {
+        let mut registers = [0; 16];
+        for (register, number) in registers.iter_mut().zip(0..16) {
+            *register = held.register(number)?;
+        }
+        Ok(Outcome {
+            instructions,
+            registers,
+            h: held.h(),
+            flags: held.flags(),
+            verdict: Verdict::try_from(card.fetch(VERDICT_AT)),
+        })
     }
 
-    /// Whether two runs ended alike.
-    pub fn agrees(self, other: End) -> bool {
-        let mut same = self.h == other.h && self.verdict == other.verdict;
-        same = same && self.flags.n == other.flags.n && self.flags.z == other.flags.z;
-        same = same && self.flags.c == other.flags.c && self.flags.v == other.flags.v;
-        for (mine, theirs) in self.registers.iter().zip(other.registers.iter()) {
-            same = same && *mine == *theirs;
-        }
-        same
+    /// The quantity that the program read.
+    pub fn quantity(self) -> u32 {
+        self.registers[QUANTITY_IN]
     }
 }
 
 // Every third line is stalled, and the tick is up on every other sixteen.
 fn line_at(place: usize) -> u8 {
-    let stall = if place % 3 == 2 { 2 } else { 0 };
-    let tick = if place / 16 % 2 == 1 { 1 } else { 0 };
-    stall + tick
+    let stall = u8::from(place % 3 == 2);
+    let tick = u8::from(place / 16 % 2 == 1);
+    2 * stall + tick
 }
 
-fn lines(heap: Global) -> anyhow::Result<Vec<u8>> {
-    let mut lines = Vec::new(heap);
-    for place in 0..LINES {
-        lines.push(line_at(place))?;
-    }
-    Ok(lines)
+/// What a run begins with: a card with the program from address 0 on, the limit and the order's bytes, and the lines.
+#[derive(Drop)]
+pub struct Setting {
+    card: Card,
+    lines: [u8; LINES],
 }
 
-// A card with the program from address 0 on, the limit, and the order's bytes.
-fn set_up(heap: Global, program: &[u32], field: Field) -> Result<Card, AllocError> {
-    let mut words = vec![in heap; 0; STANDARD_WORDS]?;
-    for (at, word) in program.iter().enumerate() {
-        if at < words.len() {
-            words[at] = *word;
+impl Setting {
+    pub fn new(alloc: Global, program: &[u32], field: Field) -> Result<Setting, AllocError> {
+        let mut words = vec![in alloc; 0; STANDARD_WORDS]?;
+        for (place, word) in words.iter_mut().zip(program) {
+            *place = *word;
         }
+        if let Some(place) = words.get_mut(LIMIT_AT) {
+            *place = LIMIT;
+        }
+        let mut card = card::stack(words, &[]);
+        store_field_at(&mut card, FIELD_AT, field);
+        Ok(Setting {
+            card,
+            lines: array::from_fn(line_at),
+        })
     }
-    if LIMIT_AT < words.len() {
-        words[LIMIT_AT] = LIMIT;
-    }
-    let mut card = card::stack(words, &[]);
-    store_byte(&mut card, FIELD_AT, field.b0);
-    store_byte(&mut card, FIELD_AT + 1, field.b1);
-    store_byte(&mut card, FIELD_AT + 2, field.b2);
-    store_byte(&mut card, FIELD_AT + 3, field.b3);
-    Ok(card)
-}
 
-fn end_of(held: Held, card: &Card) -> anyhow::Result<End> {
-    let mut registers = [0; 16];
-    for number in 0..16 {
-        registers[number as usize] = held.register(number)?;
+    /// The clock, counted from 1, after which the card first showed a verdict.
+    pub fn verdict_clock(self) -> Option<usize> {
+        let Setting { mut card, lines } = self;
+        let mut live = Held::new().release(&card);
+        watch(&mut live, &mut card, &lines, VERDICT_AT).ok()
     }
-    Ok(End {
-        registers,
-        h: held.h(),
-        flags: held.flags(),
-        verdict: card.fetch(VERDICT_AT),
-    })
-}
 
-/// The clock, counted from 1, after which the card first showed a verdict.
-pub fn verdict_clock(heap: Global, program: &[u32], field: Field) -> anyhow::Result<Option<usize>> {
-    let mut card = set_up(heap, program, field)?;
-    let lines = lines(heap)?;
-    let mut live = Held::new().release(&card);
-    match watch(&mut live, &mut card, &lines, VERDICT_AT) {
-        Watched::Seen(clock) => Ok(Some(clock)),
-        Watched::Unseen(_) => Ok(None),
+    /// The whole run by clock, in two calls.
+    pub fn by_clock(self) -> Result<ByClock, Refusal> {
+        let Setting { mut card, lines } = self;
+        let requests = [
+            Request {
+                way: Way::ByClock,
+                first: 0,
+                count: 50,
+            },
+            Request {
+                way: Way::ByClock,
+                first: 50,
+                count: LINES,
+            },
+        ];
+        let mut answers = [Answer::Clocked(Ok((0, 0))); 2];
+        let played = play(
+            Held::new(),
+            &mut card,
+            &lines,
+            &requests,
+            &mut answers,
+            &mut [],
+        );
+        // One loop for both sums, since a refused call ends it.
+        let mut instructions = 0u32;
+        let mut stalls = 0u32;
+        for answer in answers {
+            if let Answer::Clocked(told) = answer {
+                let (finished, stalled) = told?;
+                instructions = instructions.saturating_add(finished);
+                stalls = stalls.saturating_add(stalled);
+            }
+        }
+        Ok(ByClock {
+            stalls,
+            outcome: Outcome::new(instructions, &played.live.hold(), &card)?,
+        })
     }
-}
 
-/// The whole run by clock, in two calls.
-pub fn by_clock(heap: Global, program: &[u32], field: Field) -> anyhow::Result<ByClock> {
-    let mut card = set_up(heap, program, field)?;
-    let lines = lines(heap)?;
-    let requests = [
-        Request {
-            way: Way::ByClock,
+    /// The whole run by leap, in one call.
+    pub fn by_leap(self) -> Result<ByLeap, Refusal> {
+        let Setting { mut card, lines } = self;
+        let requests = [Request {
+            way: Way::ByLeap,
             first: 0,
-            count: 50,
-        },
-        Request {
-            way: Way::ByClock,
-            first: 50,
             count: LINES,
-        },
-    ];
-    let mut answers = [Answer::Clocked(Ok((0, 0))); 2];
-    let played = play(
-        Held::new(),
-        &mut card,
-        &lines,
-        &requests,
-        &mut answers,
-        &mut [],
-    );
-    let mut instructions: u32 = 0;
-    let mut stalls: u32 = 0;
-    for answer in answers.iter() {
-        if let Answer::Clocked(told) = *answer {
-            let (finished, stalled) = told?;
-            instructions = instructions.saturating_add(finished);
-            stalls = stalls.saturating_add(stalled);
-        }
+        }];
+        let mut answers = [Answer::Leapt(Ok((0, 0, 0)))];
+        let mut trace = [Record::default(); LINES];
+        let played = play(
+            Held::new(),
+            &mut card,
+            &lines,
+            &requests,
+            &mut answers,
+            &mut trace,
+        );
+        // A request by leap is answered by a leap: the other arm is not taken.
+        let (lines, instructions, _) = match answers[0] {
+            Answer::Leapt(told) => told?,
+            Answer::Clocked(_) => (0, 0, 0),
+        };
+        Ok(ByLeap {
+            lines,
+            totals: Totals::of(&trace[..played.records.min(LINES)]),
+            outcome: Outcome::new(instructions, &played.live.hold(), &card)?,
+        })
     }
-    Ok(ByClock {
-        instructions,
-        stalls,
-        end: end_of(played.live.hold(), &card)?,
-    })
-}
-
-/// The whole run by leap, in one call.
-pub fn by_leap(heap: Global, program: &[u32], field: Field) -> anyhow::Result<ByLeap> {
-    let mut card = set_up(heap, program, field)?;
-    let lines = lines(heap)?;
-    let requests = [Request {
-        way: Way::ByLeap,
-        first: 0,
-        count: LINES,
-    }];
-    let mut answers = [Answer::Leapt(Ok((0, 0, 0)))];
-    let mut trace = [NO_RECORD; LINES];
-    let played = play(
-        Held::new(),
-        &mut card,
-        &lines,
-        &requests,
-        &mut answers,
-        &mut trace,
-    );
-    let mut clocks: u64 = 0;
-    let mut stalls: u64 = 0;
-    let mut acknowledged: u64 = 0;
-    for record in trace.iter().take(played.records) {
-        clocks = clocks.saturating_add(u64::from(record.clocks));
-        stalls = stalls.saturating_add(u64::from(record.stalls));
-        acknowledged = acknowledged.saturating_add(u64::from(record.acknowledged));
-    }
-    let (lines, instructions, _) = match answers[0] {
-        Answer::Leapt(told) => told?,
-        Answer::Clocked(_) => (0, 0, 0),
-    };
-    Ok(ByLeap {
-        instructions,
-        lines,
-        clocks,
-        stalls,
-        acknowledged,
-        end: end_of(played.live.hold(), &card)?,
-    })
 }

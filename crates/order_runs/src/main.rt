@@ -4,13 +4,77 @@
 
 mod house;
 
-use anyhow::anyhow;
-use house::{ByClock, ByLeap};
-use order::{Field, line};
+use house::{ByClock, ByLeap, Setting, Totals};
+use order::Field;
 use std::io;
 use std::process::ExitCode;
 
-fn tell(rt: &HostRuntime, text: &str, field: Field) -> anyhow::Result<()> {
+fn tell_clock(rt: &impl Print, run: ByClock) -> io::Result<()> {
+    let ByClock { stalls, outcome } = run;
+    let instructions = outcome.instructions;
+    let lines = house::LINES;
+    println!(rt;
+        "   By clock: {lines} lines, {instructions} instructions finished, {stalls} lines stalled."
+    )
+}
+
+fn tell_leap(rt: &impl Print, run: ByLeap) -> io::Result<()> {
+    let ByLeap {
+        lines,
+        totals,
+        outcome,
+    } = run;
+    let Totals {
+        clocks,
+        stalls,
+        acknowledged,
+    } = totals;
+    let instructions = outcome.instructions;
+    println!(rt;
+        "   By leap: {lines} lines used, {instructions} instructions recorded, {acknowledged} of them with an acknowledged tick;"
+    )?;
+    println!(rt;
+        "      {clocks} clocks by the table and {stalls} stalls are {sum} lines.",
+        sum = clocks.saturating_add(stalls)
+    )
+}
+
+fn tell_agreement(rt: &impl Print, clocked: ByClock, leapt: ByLeap) -> io::Result<()> {
+    if clocked.outcome == leapt.outcome {
+        println!(rt; "   Both runs agree on instructions, registers, H, flags and verdict.")
+    } else {
+        println!(rt; "   The two runs DIFFER.")
+    }
+}
+
+// One of the house's programs over the order's bytes.
+fn tell_program(
+    rt: &(impl Print + AllocGlobal),
+    program: &[u32],
+    field: Field,
+) -> anyhow::Result<()> {
+    let setting = || Setting::new(rt.alloc(), program, field);
+    let clocked = setting()?.by_clock()?;
+    let leapt = setting()?.by_leap()?;
+    println!(rt;
+        "   Quantity that the card read: {quantity}",
+        quantity = clocked.outcome.quantity()
+    )?;
+    match clocked.outcome.verdict {
+        Ok(verdict) => println!(rt; "   Verdict: {verdict}.")?,
+        Err(none) => println!(rt; "   {none}.")?,
+    }
+    match setting()?.verdict_clock() {
+        Some(clock) => println!(rt; "   The verdict was stored on clock {clock}.")?,
+        None => println!(rt; "   No verdict was stored.")?,
+    }
+    tell_clock(rt, clocked)?;
+    tell_leap(rt, leapt)?;
+    tell_agreement(rt, clocked, leapt)?;
+    Ok(())
+}
+
+fn tell(rt: &(impl Print + AllocGlobal), text: &str, field: Field) -> anyhow::Result<()> {
     println!(rt; "Order line: {text}")?;
     println!(rt;
         "The house's program on the card: it compares the quantity with its limit, {limit}, and stores its verdict.",
@@ -26,103 +90,7 @@ fn tell(rt: &HostRuntime, text: &str, field: Field) -> anyhow::Result<()> {
     tell_program(rt, &house::BY_BYTES, field)
 }
 
-fn tell_verdict(rt: &HostRuntime, verdict: u32) -> io::Result<()> {
-    match verdict {
-        1 => println!(rt; "   Verdict: passed."),
-        2 => println!(rt; "   Verdict: refused, over the limit."),
-        _ => println!(rt; "   There is no verdict yet."),
-    }
-}
-
-fn tell_clock(rt: &HostRuntime, run: ByClock) -> io::Result<()> {
-    let ByClock {
-        instructions,
-        stalls,
-        ..
-    } = run;
-    let lines = house::LINES;
-    println!(rt;
-        "   By clock: {lines} lines, {instructions} instructions finished, {stalls} lines stalled."
-    )
-}
-
-fn tell_leap(rt: &HostRuntime, run: ByLeap) -> io::Result<()> {
-    let ByLeap {
-        instructions,
-        lines,
-        clocks,
-        stalls,
-        acknowledged,
-        ..
-    } = run;
-    println!(rt;
-        "   By leap: {lines} lines used, {instructions} instructions recorded, {acknowledged} of them with an acknowledged tick;"
-    )?;
-    println!(rt;
-        "      {clocks} clocks by the table and {stalls} stalls are {sum} lines.",
-        sum = clocks.saturating_add(stalls)
-    )
-}
-
-fn tell_agreement(rt: &HostRuntime, clocked: ByClock, leapt: ByLeap) -> io::Result<()> {
-    if clocked.end.agrees(leapt.end) && clocked.instructions == leapt.instructions {
-        println!(rt; "   Both runs agree on instructions, registers, H, flags and verdict.")
-    } else {
-        println!(rt; "   The two runs DIFFER.")
-    }
-}
-
-// One of the house's programs over the order's bytes.
-fn tell_program(rt: &HostRuntime, program: &[u32], field: Field) -> anyhow::Result<()> {
-    let clocked = house::by_clock(rt.alloc(), program, field)?;
-    let leapt = house::by_leap(rt.alloc(), program, field)?;
-    println!(rt;
-        "   Quantity that the card read: {quantity}",
-        quantity = clocked.end.quantity()
-    )?;
-    tell_verdict(rt, clocked.end.verdict)?;
-    match house::verdict_clock(rt.alloc(), program, field)? {
-        Some(clock) => println!(rt; "   The verdict was stored on clock {clock}.")?,
-        None => println!(rt; "   No verdict was stored.")?,
-    }
-    tell_clock(rt, clocked)?;
-    tell_leap(rt, leapt)?;
-    tell_agreement(rt, clocked, leapt)?;
-    Ok(())
-}
-
-// What is wrong with a line that has no quantity field at its end.
-fn no_field(number: u64) -> anyhow::Result<()> {
-    Err(anyhow!(
-        "line {number} does not end with a quantity field as 00 00 01 00, four bytes in hexadecimal"
-    ))
-}
-
-fn run(rt: &HostRuntime) -> anyhow::Result<()> {
-    let mut number = 0u64;
-    for text in rt.lines(rt.alloc()) {
-        let text = text?;
-        number = number.saturating_add(1);
-        let Some(field) = line::field(text.as_bytes()) else {
-            return no_field(number);
-        };
-        if number > 1 {
-            println!(rt)?;
-        }
-        tell(rt, text.as_str(), field)?;
-    }
-    if number == 0 {
-        return Err(anyhow!("there is no order line on standard input"));
-    }
-    Ok(())
-}
-
 fn main(rt: HostRuntime) -> ExitCode {
-    match run(&rt) {
-        Ok(()) => ExitCode::SUCCESS,
-        Err(error) => {
-            let _told = eprintln!(rt; "order_runs: {error}");
-            ExitCode::FAILURE
-        }
-    }
+    let outcome = order_lines::each(&rt, |text, field| tell(&rt, text, field));
+    ending::of(&rt, "order_runs", outcome)
 }

@@ -17,35 +17,36 @@
 //! Any other line ends the run with a message.
 #![tactic(auto)]
 
-use anyhow::anyhow;
+use anyhow::{Context, anyhow, bail};
 
 mod units;
 mod words;
 
-fn case(rt: &HostRuntime, name: &str, numbers: &[u32]) -> anyhow::Result<()> {
+use words::Given;
+
+// The numbers stay a slice up to here, and no type for each case: this table is all that such a type would say. What several cases share is `Given`.
+fn case(rt: &impl Print, name: &str, numbers: &[u32]) -> anyhow::Result<()> {
     match (name, numbers) {
-        ("fields", [word]) => words::fields(rt, *word),
-        ("kinds", [word]) => words::kinds(rt, *word),
-        ("op", [word, b, c, h, flags]) => words::op(rt, *word, *b, *c, *h, *flags),
-        ("load", [word, b, shown, flags]) => words::load(rt, *word, *b, *shown, *flags),
-        ("store", [word, b, value]) => words::store(rt, *word, *b, *value),
-        ("taken", [word]) => words::taken(rt, *word),
-        ("branch", [word, pc, c, flags, enable]) => {
-            words::branch(rt, *word, *pc, *c, *flags, *enable)
+        ("fields", &[word]) => words::fields(rt, word),
+        ("kinds", &[word]) => words::kinds(rt, word),
+        ("op", &[word, b, c, h, flags]) => words::op(rt, Given::new(word, b, c), h, flags),
+        ("load", &[word, b, shown, flags]) => words::load(rt, word, b, shown, flags),
+        ("store", &[word, b, value]) => words::store(rt, word, b, value),
+        ("taken", &[word]) => words::taken(rt, word),
+        ("branch", &[word, pc, c, flags, enable]) => words::branch(rt, word, pc, c, flags, enable),
+        ("unit", &[word, b, c, flags, lead, closing]) => {
+            units::unit(rt, Given::new(word, b, c), flags, lead, closing)
         }
-        ("unit", [word, b, c, flags, lead, closing]) => {
-            units::unit(rt, *word, *b, *c, *flags, *lead, *closing)
+        ("pair", &[word, b, c, lead, total]) => {
+            units::pair(rt, Given::new(word, b, c), lead, total)
         }
-        ("pair", [word, b, c, lead, total]) => units::pair(rt, *word, *b, *c, *lead, *total),
-        _ => Err(anyhow!("no such case, or not as many numbers")),
+        _ => bail!("no such case, or not as many numbers"),
     }
 }
 
-fn read_case(rt: &HostRuntime, text: &str) -> anyhow::Result<()> {
+fn read_case(rt: &(impl Print + AllocGlobal), text: &str) -> anyhow::Result<()> {
     let mut parts = text.split_whitespace();
-    let Some(name) = parts.next() else {
-        return Err(anyhow!("an empty line"));
-    };
+    let name = parts.next().context("an empty line")?;
     let mut numbers = Vec::new(rt.alloc());
     for part in parts {
         numbers.push(u32::from_str_radix(part, 16)?)?;
@@ -54,14 +55,10 @@ fn read_case(rt: &HostRuntime, text: &str) -> anyhow::Result<()> {
     case(rt, name, numbers.as_slice())
 }
 
-fn run(rt: &HostRuntime) -> anyhow::Result<()> {
-    let mut number = 0u64;
-    for text in rt.lines(rt.alloc()) {
+fn run(rt: &(impl Print + Input + AllocGlobal)) -> anyhow::Result<()> {
+    for (number, text) in (1u64..).zip(rt.lines(rt.alloc())) {
         let text = text?;
-        number = number.saturating_add(1);
-        if let Err(error) = read_case(rt, text.as_str()) {
-            return Err(anyhow!("line {number}: {error}"));
-        }
+        read_case(rt, text.as_str()).map_err(|error| anyhow!("line {number}: {error}"))?;
     }
     Ok(())
 }

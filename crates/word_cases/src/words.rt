@@ -1,86 +1,76 @@
 //! Cases on fields, kinds, register operations, loads, stores and branches.
-ghost use Rattle.std.specs.Prelude.{◌≡◌, ◌+◌, ◌*◌, if◌then◌else◌};
-ghost use Rattle.alu.specs.Arithmetic.{one};
+ghost use Rattle.std.specs.Prelude.{◌≡◌, if◌then◌else◌};
 ghost use Rattle.isa.specs.Word.{q, constant};
 
 use alu::{Inputs, operate, write_flags};
-use anyhow::anyhow;
-use isa::{Flags, Instruction, Kind, Operation, link, next, word_at};
-
-fn operation_name(operation: Operation) -> &'static str {
-    match operation {
-        Operation::Mov => "MOV",
-        Operation::Lsl => "LSL",
-        Operation::Asr => "ASR",
-        Operation::Ror => "ROR",
-        Operation::And => "AND",
-        Operation::Ann => "ANN",
-        Operation::Ior => "IOR",
-        Operation::Xor => "XOR",
-        Operation::Add => "ADD",
-        Operation::Sub => "SUB",
-        Operation::Zero => "zero",
-    }
-}
-
-fn kind_name(kind: Kind) -> &'static str {
-    match kind {
-        Kind::Register(operation) => operation_name(operation),
-        Kind::Multiply => "MUL",
-        Kind::Divide => "DIV",
-        Kind::Load => "load",
-        Kind::Store => "store",
-        Kind::Branch => "branch",
-    }
-}
+use anyhow::{anyhow, bail};
+use isa::{Flags, Instruction, Kind, Sent, link, next, word_at};
 
 /// Four flags from their digit.
 pub(crate) fn flags_from(digit: u32) -> anyhow::Result<Flags> {
-    if digit > 15 {
-        return Err(anyhow!("flags are one digit"));
+    u8::try_from(digit)
+        .ok()
+        .and_then(|digit| Flags::try_from(digit).ok())
+        .ok_or_else(|| anyhow!("flags are one digit"))
+}
+
+/// An instruction word, with the values of R.b and R.c.
+#[derive(Clone, Copy, PartialEq, Eq, Debug)]
+pub(crate) struct Given {
+    pub instruction: Instruction,
+    pub b: u32,
+    pub c: u32,
+}
+
+impl Given {
+    pub(crate) fn new(word: u32, b: u32, c: u32) -> Given
+        ensures { result ≡ record { instruction = record { word = word }; b = b; c = c } }
+    {
+        Given {
+            instruction: Instruction { word },
+            b,
+            c,
+        }
     }
-    Ok(Flags {
-        n: digit / 8 % 2 == 1,
-        z: digit / 4 % 2 == 1,
-        c: digit / 2 % 2 == 1,
-        v: digit % 2 == 1,
-    })
-}
 
-/// The digit of four flags.
-pub(crate) fn digit_of(flags: Flags) -> u8
-    ensures { result ≡ 8 * one flags.n + 4 * one flags.z + 2 * one flags.c + one flags.v }
-{
-    8 * flags.n as u8 + 4 * flags.z as u8 + 2 * flags.c as u8 + flags.v as u8
-}
-
-/// The operand n: the word's constant, or the value of R.c.
-pub(crate) fn operand(instruction: Instruction, c: u32) -> u32
-    ensures { result ≡ (if q instruction.word then constant instruction.word else c) }
-{
-    if instruction.q() {
-        instruction.constant()
-    } else {
-        c
+    /// The operand n: the word's constant, or the value of R.c.
+    pub(crate) fn n(self) -> u32
+        ensures { result ≡ (if q self.instruction.word then constant self.instruction.word else self.c) }
+    {
+        if self.instruction.q() {
+            self.instruction.constant()
+        } else {
+            self.c
+        }
     }
 }
 
+// No `TryFrom`, since both types are std's.
 fn switch_from(number: u32) -> anyhow::Result<bool> {
     match number {
         0 => Ok(false),
         1 => Ok(true),
-        _ => Err(anyhow!("a switch is 0 or 1")),
+        _ => bail!("a switch is 0 or 1"),
     }
 }
 
-pub(crate) fn fields(rt: &HostRuntime, word: u32) -> anyhow::Result<()> {
+// The instruction of a word that is of this kind.
+fn instruction_of(kind: Kind, word: u32) -> anyhow::Result<Instruction> {
+    let instruction = Instruction { word };
+    if instruction.kind() != kind {
+        bail!("the word is no {kind}");
+    }
+    Ok(instruction)
+}
+
+pub(crate) fn fields(rt: &impl Print, word: u32) -> anyhow::Result<()> {
     let i = Instruction { word };
-    let name = kind_name(i.kind());
+    let kind = i.kind();
     let clocks = i.clocks();
-    print!(rt; " {name}, clocks {clocks}")?;
-    let q = i.q() as u8;
-    let u = i.u() as u8;
-    let v = i.v() as u8;
+    print!(rt; " {kind}, clocks {clocks}")?;
+    let q = u8::from(i.q());
+    let u = u8::from(i.u());
+    let v = u8::from(i.v());
     let a = i.a();
     let b = i.b();
     let c = i.c();
@@ -91,156 +81,102 @@ pub(crate) fn fields(rt: &HostRuntime, word: u32) -> anyhow::Result<()> {
     Ok(())
 }
 
-pub(crate) fn kinds(rt: &HostRuntime, word: u32) -> anyhow::Result<()> {
+pub(crate) fn kinds(rt: &impl Print, word: u32) -> anyhow::Result<()> {
     let rest = word & 0xFFF0_FFFF;
     for op in 0..16u32 {
         let i = Instruction {
             word: rest | op << 16,
         };
-        let name = kind_name(i.kind());
+        let kind = i.kind();
         let clocks = i.clocks();
-        print!(rt; " {name} {clocks}")?;
+        print!(rt; " {kind} {clocks}")?;
     }
     println!(rt)?;
     Ok(())
 }
 
-pub(crate) fn op(
-    rt: &HostRuntime,
-    word: u32,
-    b: u32,
-    c: u32,
-    h: u32,
-    digit: u32,
-) -> anyhow::Result<()> {
-    let instruction = Instruction { word };
+pub(crate) fn op(rt: &impl Print, given: Given, h: u32, digit: u32) -> anyhow::Result<()> {
+    let Given { instruction, b, .. } = given;
     let Kind::Register(operation) = instruction.kind() else {
-        return Err(anyhow!("the word is no register operation"));
+        bail!("the word is no register operation");
     };
-    let n = operand(instruction, c);
+    let n = given.n();
     let flags = flags_from(digit)?;
     let outcome = operate(operation, instruction, Inputs { b, n, h, flags });
     let value = outcome.value;
-    let after = digit_of(outcome.flags);
-    let name = operation_name(operation);
-    println!(rt; " {name} n {n:08X}, value {value:08X}, flags {after:X}")?;
+    let after = u8::from(outcome.flags);
+    println!(rt; " {operation} n {n:08X}, value {value:08X}, flags {after:X}")?;
     Ok(())
 }
 
 pub(crate) fn load(
-    rt: &HostRuntime,
+    rt: &impl Print,
     word: u32,
     base: u32,
     shown: u32,
     digit: u32,
 ) -> anyhow::Result<()> {
-    let instruction = Instruction { word };
-    let Kind::Load = instruction.kind() else {
-        return Err(anyhow!("the word is no load"));
-    };
+    let instruction = instruction_of(Kind::Load, word)?;
     let flags = flags_from(digit)?;
     let address = instruction.address(base);
     let at = word_at(address);
     let value = instruction.load(address, shown);
-    let after = digit_of(write_flags(value, flags));
+    let after = u8::from(write_flags(value, flags));
     println!(rt;
         " byte address {address:06X}, word address {at:06X}, value {value:08X}, flags {after:X}"
     )?;
     Ok(())
 }
 
-pub(crate) fn store(rt: &HostRuntime, word: u32, base: u32, value: u32) -> anyhow::Result<()> {
-    let instruction = Instruction { word };
-    let Kind::Store = instruction.kind() else {
-        return Err(anyhow!("the word is no store"));
-    };
+pub(crate) fn store(rt: &impl Print, word: u32, base: u32, value: u32) -> anyhow::Result<()> {
+    let instruction = instruction_of(Kind::Store, word)?;
     let address = instruction.address(base);
     let at = word_at(address);
-    let sent = instruction.store(address, value);
-    let word = sent.word;
-    let b0 = sent.marks.b0 as u8;
-    let b1 = sent.marks.b1 as u8;
-    let b2 = sent.marks.b2 as u8;
-    let b3 = sent.marks.b3 as u8;
-    println!(rt;
-        " byte address {address:06X}, word address {at:06X}, sent {word:08X}, marks {b0}{b1}{b2}{b3}"
-    )?;
+    let Sent { word, marks } = instruction.store(address, value);
+    print!(rt; " byte address {address:06X}, word address {at:06X}, sent {word:08X}, marks ")?;
+    for mark in <[bool; 4]>::from(marks) {
+        print!(rt; "{}", u8::from(mark))?;
+    }
+    println!(rt)?;
     Ok(())
 }
 
-fn branch_word(word: u32) -> anyhow::Result<Instruction> {
-    let instruction = Instruction { word };
-    match instruction.kind() {
-        Kind::Branch => Ok(instruction),
-        _ => Err(anyhow!("the word is no branch")),
-    }
-}
-
-pub(crate) fn taken(rt: &HostRuntime, word: u32) -> anyhow::Result<()> {
-    let instruction = branch_word(word)?;
+pub(crate) fn taken(rt: &impl Print, word: u32) -> anyhow::Result<()> {
+    let instruction = instruction_of(Kind::Branch, word)?;
     print!(rt; " ")?;
     for digit in 0..16 {
-        let taken = instruction.taken(flags_from(digit)?) as u8;
+        let taken = u8::from(instruction.taken(flags_from(digit)?));
         print!(rt; "{taken}")?;
     }
     println!(rt)?;
     Ok(())
 }
 
-// What a branch leaves, but for return and enable.
-struct Landing {
-    address: u32,
-    link: Option<u32>,
-    flags: Flags,
-}
-
-fn land(instruction: Instruction, pc: u32, c: u32, flags: Flags) -> Landing {
-    if !instruction.taken(flags) {
-        return Landing {
-            address: next(pc),
-            link: None,
-            flags,
-        };
-    }
-    let address = instruction.target(pc, c);
-    if instruction.v() {
-        let value = link(pc);
-        Landing {
-            address,
-            link: Some(value),
-            flags: write_flags(value, flags),
-        }
-    } else {
-        Landing {
-            address,
-            link: None,
-            flags,
-        }
-    }
-}
-
 pub(crate) fn branch(
-    rt: &HostRuntime,
+    rt: &impl Print,
     word: u32,
     pc: u32,
     c: u32,
     digit: u32,
     enable: u32,
 ) -> anyhow::Result<()> {
-    let instruction = branch_word(word)?;
-    let Landing {
-        address,
-        link,
-        flags,
-    } = land(instruction, pc, c, flags_from(digit)?);
+    let instruction = instruction_of(Kind::Branch, word)?;
+    let flags = flags_from(digit)?;
+    let taken = instruction.taken(flags);
+    let address = if taken {
+        instruction.target(pc, c)
+    } else {
+        next(pc)
+    };
+    let link = (taken && instruction.v()).then(|| link(pc));
+    let after = u8::from(link.map_or(flags, |value| write_flags(value, flags)));
     print!(rt; " next {address:06X}")?;
     match link {
         Some(value) => print!(rt; ", R15 {value:08X}")?,
         None => print!(rt; ", no link")?,
     }
-    let after = digit_of(flags);
-    let returns = instruction.returns() as u8;
-    let enabled = instruction.enables(switch_from(enable)?) as u8;
+    let returns = u8::from(instruction.returns());
+    let enabled = u8::from(instruction.enables(switch_from(enable)?));
     println!(rt; ", flags {after:X}, return {returns}, enable {enabled}")?;
     Ok(())
 }
