@@ -5,11 +5,15 @@
 //! and to end, and not that it follows the documents: that is what the comparison is for.
 #![tactic(auto)]
 
-ghost use Rattle.std.specs.Prelude.{◌≡◌, ◌/◌, ◌%◌, ◌<◌, true, false, length, Some, None, ◌==◌, nat_lt, slice_index, slice_set};
+ghost use Rattle.std.specs.Prelude.{◌≡◌, ◌/◌, ◌%◌, ◌<◌, true, false, length, None, Err, IsOk, ◌==◌, slice_index, slice_set};
 
+use arrayvec::ArrayVec;
+
+mod fault;
 mod rows;
 mod sums;
 
+pub use fault::Fault;
 use sums::{Sum, Two, bit};
 
 const HALF: u32 = 0x8000_0000;
@@ -40,26 +44,28 @@ const CONDITIONS: [u32; 8] = [
 ];
 
 /// A finished instruction.
-#[derive(Clone, Copy)]
+#[derive(Clone, Copy, PartialEq, Eq, Debug)]
 pub struct Done {
     pub address: u32,
     pub word: u32,
     pub clocks: u32,
     pub stalls: u32,
+    // 1 or 0, and no bool: docs/MACHINE.md has a record as five numbers
     pub acknowledged: u32,
 }
 
-/// Core and bus in one. Flags are a number, 8 N + 4 Z + 2 C + V.
+/// Core and bus in one.
 #[derive(Drop)]
 pub struct Second {
     words: Vec<u32>,
-    feed: [u8; 64],
-    fed: u32,
+    feed: ArrayVec<u8, 64>,
     taken: u32,
     age: u32,
+    // no type of its own for a held core: it is preset, read and clocked as a live one, and its clock does nothing
     live: bool,
     registers: [u32; 16],
     h: u32,
+    // 8 N + 4 Z + 2 C + V: one number and not four bools, since it names a bit of an entry of CONDITIONS
     flags: u32,
     pc: u32,
     ir: u32,
@@ -74,87 +80,64 @@ pub struct Second {
 }
 
 // What a register operation makes: a value, and H and the flags C and V (2 C + V) after it.
-#[derive(Clone, Copy)]
+#[derive(Clone, Copy, PartialEq, Eq, Debug)]
 struct Made {
     value: u32,
     h: u32,
     cv: u32,
 }
 
-fn pick(cells: &[u32], at: u32) -> u32
-    ensures { result ≡ slice_index cells.now at }
-{
-    if (at as usize) < cells.len() {
-        cells[at as usize]
-    } else {
-        0
-    }
+// What the two top bits of a word tell apart.
+#[derive(Clone, Copy, PartialEq, Eq, Debug)]
+enum Class {
+    Operation,
+    Access,
+    Branch,
 }
 
+// The lowest bits of the fields of four bits: the numbers of R.a, R.b and R.c, and op.
+const A: u32 = 24;
+
+const B: u32 = 20;
+
+const OP: u32 = 16;
+
+const C: u32 = 0;
+
+#[tactic(auto, using(std::proofs::lemmas::List::set_past))]
 fn put(cells: &mut [u32], at: u32, value: u32)
     ensures { cells.new ≡ slice_set cells.old at value }
 {
+    // not by get_mut: the check does not see in the slice what is written through the loan
     if (at as usize) < cells.len() {
         cells[at as usize] = value;
     }
 }
 
-fn pick_byte(cells: &[u8], at: u32) -> u32 {
-    if (at as usize) < cells.len() {
-        cells[at as usize] as u32
-    } else {
-        0
+// Four bits of a word, from `place` on.
+fn field(word: u32, place: u32) -> u32 {
+    (word >> (place % 32)) % 16
+}
+
+fn class_of(word: u32) -> Class {
+    match word >> 30 {
+        0 | 1 => Class::Operation,
+        2 => Class::Access,
+        _ => Class::Branch,
     }
-}
-
-// Copies as many bytes as both have, and says how many those are, up to 64.
-fn copy_in(into: &mut [u8], from: &[u8]) -> u32 {
-    let mut copied = 0u32;
-    for (i, byte) in from.iter().enumerate() {
-        if i < into.len() {
-            into[i] = *byte;
-            copied = copied.saturating_add(1);
-        }
-    }
-    copied
-}
-
-fn one(up: bool) -> u32 {
-    if up { 1 } else { 0 }
-}
-
-// The number of R.a, R.b and R.c.
-fn a_of(word: u32) -> u32 {
-    word / 0x100_0000 % 16
-}
-
-fn b_of(word: u32) -> u32 {
-    word / 0x10_0000 % 16
-}
-
-fn c_of(word: u32) -> u32 {
-    word % 16
-}
-
-fn is_access(word: u32) -> bool {
-    word / 0x4000_0000 == 2
-}
-
-fn is_branch(word: u32) -> bool {
-    word / 0x4000_0000 == 3
 }
 
 fn clocks(word: u32) -> u32 {
-    match (word / 0x4000_0000, word / 0x1_0000 % 16) {
-        (2, _) => 2,
-        (0 | 1, 10 | 11) => 32,
+    match (class_of(word), field(word, OP)) {
+        (Class::Access, _) => 2,
+        (Class::Operation, 10 | 11) => 32,
         _ => 1,
     }
 }
 
 fn byte_in(word: u32, lane: u32) -> u32 {
     let bytes = word.to_le_bytes();
-    bytes[(lane % 4) as usize] as u32
+    u32::from(bytes[(lane % 4) as usize])
 }
 
 fn with_byte(word: u32, lane: u32, value: u32) -> u32 {
@@ -169,13 +152,12 @@ impl Second {
         ensures core { (result.live ≡ false) × ((result.s ≡ 0) × ((result.h ≡ 0) × (result.flags ≡ 0))) }
         ensures bus { (result.words ≡ words) × ((result.taken ≡ 0) × (result.age ≡ 0)) }
     {
-        let mut places = [0u8; 64];
-        let fed = copy_in(&mut places, feed);
+        let first = &feed[..feed.len().min(64)];
+        let places = ArrayVec::try_from(first).unwrap();
         let registers = [0u32; 16];
         Second {
             words,
             feed: places,
-            fed,
             taken: 0,
             age: 0,
             live: false,
@@ -195,19 +177,24 @@ impl Second {
         }
     }
 
-    /// Sets a register and no flag; false for a number over 15.
-    pub fn preset(&mut self, number: u32, value: u32) -> bool
-        ensures answer { result ≡ nat_lt number 16 }
+    /// Sets a register and no flag; a number over 15 sets nothing.
+    pub fn preset(&mut self, number: u32, value: u32) -> Result<(), Fault>
+        ensures taken { number < 16 → IsOk result }
+        ensures refused { 15 < number → result ≡ Err Fault.RegisterNumber }
         ensures sets { self.new.registers ≡ slice_set self.old.registers number value }
         ensures stays { (self.new.flags ≡ self.old.flags) × ((self.new.h ≡ self.old.h) × (self.new.words ≡ self.old.words)) }
     {
         put(&mut self.registers, number, value);
-        number < 16
+        if number < 16 {
+            Ok(())
+        } else {
+            Err(Fault::RegisterNumber)
+        }
     }
 
     /// Releases the core: it is live from then on, at the first word of the ROM.
     pub fn start(&mut self)
-        ensures at { (self.new.pc ≡ 4192256) × ((self.new.s ≡ 0) × (self.new.live ≡ true)) }
+        ensures at { (self.new.pc ≡ 0x3F_F800) × ((self.new.s ≡ 0) × (self.new.live ≡ true)) }
         ensures stays { (self.new.registers ≡ self.old.registers) × ((self.new.h ≡ self.old.h) × ((self.new.flags ≡ self.old.flags) × (self.new.words ≡ self.old.words))) }
     {
         self.live = true;
@@ -261,7 +248,7 @@ impl Second {
     pub fn register(&self, number: u32) -> u32
         ensures { result ≡ slice_index self.now.registers number }
     {
-        pick(&self.registers, number)
+        self.registers.get(number as usize).copied().unwrap_or(0)
     }
 
     /// H.
@@ -287,17 +274,11 @@ impl Second {
 
     /// The word that the bus shows at a word address, modulo 2^22.
     pub fn shown(&self, at: u32) -> u32
-        ensures { at % 4194304 ≡ 4192256 → result ≡ 3875538943 }
+        ensures { at % 0x40_0000 ≡ 0x3F_F800 → result ≡ 0xE700_07FF }
     {
         match at % ROUND {
-            0x3F_FFF2 => {
-                if self.byte_waits() {
-                    pick_byte(&self.feed, self.taken)
-                } else {
-                    0
-                }
-            }
-            0x3F_FFF3 => one(self.byte_waits()),
+            0x3F_FFF2 => self.waiting().map_or(0, u32::from),
+            0x3F_FFF3 => u32::from(self.waiting().is_some()),
             0x3F_FFF0..=0x3F_FFFF => 0,
             0x3F_F800 => BOOT_WORD,
             0x3F_F801..=0x3F_F9FF => 0,
@@ -305,38 +286,38 @@ impl Second {
         }
     }
 
-    /// Number and place of the refusal of these lines, if they are refused.
-    pub fn lines_fault(lines: &[u8]) -> Option<(u32, u32)>
-        ensures { 65535 < length lines.now → result ≡ Some (5, 0) }
+    /// Whether these lines may be clocked; else the first fault among them.
+    pub fn check_lines(lines: &[u8]) -> Result<(), Fault>
+        ensures { 65535 < length lines.now → result ≡ Err Fault.TooManyLines }
     {
         if lines.len() > 65_535 {
-            return Some((5, 0));
+            return Err(Fault::TooManyLines);
         }
-        let mut place = 0u32;
-        for line in lines {
-            if *line > 3 {
-                return Some((6, place));
-            }
-            place = place.saturating_add(1);
+        match lines.iter().position(|line| *line > 3) {
+            Some(place) => Err(Fault::Line(place as u32)),
+            None => Ok(()),
         }
-        None
     }
 
-    /// Number and place of the refusal of this deck, over so many words of memory and room for so many lines, if it is refused.
-    pub fn deck_fault(deck: &[u8], words: u32, room: u32) -> Option<(u32, u32)>
-        ensures { 65520 < length deck.now → result ≡ Some (8, 0) }
+    /// Whether this deck may be loaded over so many words of memory and room for so many lines; else its first fault.
+    pub fn check_deck(deck: &[u8], words: u32, room: u32) -> Result<(), Fault>
+        ensures { 65520 < length deck.now → result ≡ Err Fault.DeckSize }
     {
-        rows::fault(deck, words, room)
+        rows::check(deck, words, room)
     }
 
-    // Byte `taken` of the feed has come: the age has reached 13,030 × (taken + 1).
-    fn byte_waits(&self) -> bool {
-        self.taken < self.fed && self.age / PACE > self.taken
+    // Byte `taken` of the feed, if it has come: if the age has reached 13,030 × (taken + 1).
+    fn waiting(&self) -> Option<u8> {
+        if self.age / PACE > self.taken {
+            self.feed.as_slice().get(self.taken as usize).copied()
+        } else {
+            None
+        }
     }
 
     fn remembered(&self, at: u32) -> u32 {
         if at < MOST_WORDS {
-            pick(self.words.as_slice(), at)
+            self.words.get(at as usize).copied().unwrap_or(0)
         } else {
             0
         }
@@ -358,7 +339,7 @@ impl Second {
     // An unstalled line.
     fn work(&mut self, line: u8) -> Option<Done> {
         let word = self.ir;
-        if self.s == 0 && is_access(word) {
+        if self.s == 0 && class_of(word) == Class::Access {
             self.access(word);
         }
         let so_far = self.s.saturating_add(1);
@@ -375,7 +356,7 @@ impl Second {
         let at = self.byte_address(word);
         let whole = !bit(word, 28);
         if bit(word, 29) {
-            let value = self.register(a_of(word));
+            let value = self.register(field(word, A));
             let old = self.remembered(at / 4);
             let new = if whole {
                 value
@@ -385,11 +366,11 @@ impl Second {
             self.remember(at / 4, new);
         } else {
             let got = self.shown(at / 4);
-            if at / 4 == BYTE_CELL && self.byte_waits() {
+            if at / 4 == BYTE_CELL && self.waiting().is_some() {
                 self.taken = self.taken.saturating_add(1);
             }
             let value = if whole { got } else { byte_in(got, at % 4) };
-            self.write(a_of(word), value);
+            self.write(field(word, A), value);
         }
     }
 
@@ -397,22 +378,22 @@ impl Second {
         let offset = word % 0x10_0000;
         // 2^24 - 2^20 more for a negative offset, since all is modulo 2^24
         let lift = if offset < 0x8_0000 { 0 } else { 0xF0_0000 };
-        let base = self.register(b_of(word)) % 0x100_0000;
+        let base = self.register(field(word, B)) % 0x100_0000;
         (base + offset + lift) % 0x100_0000
     }
 
     // Writes a register, N and Z.
     fn write(&mut self, number: u32, value: u32) {
         put(&mut self.registers, number, value);
-        let negative = if value >= HALF { 8 } else { 0 };
-        let zero = if value == 0 { 4 } else { 0 };
-        self.flags = negative + zero + self.flags % 4;
+        let negative = u32::from(value >= HALF);
+        let zero = u32::from(value == 0);
+        self.flags = 8 * negative + 4 * zero + self.flags % 4;
     }
 
     // The last line of an instruction, but for the clock that the bus passes.
     fn finish(&mut self, word: u32, line: u8) -> Done {
         let address = self.pc;
-        let by_register = is_branch(word) && !bit(word, 29);
+        let by_register = class_of(word) == Class::Branch && !bit(word, 29);
         let returns = by_register && bit(word, 4);
         let acknowledged = self.pending && self.enable && !self.mode;
         let mut next = self.onward(word);
@@ -437,29 +418,29 @@ impl Second {
         if acknowledged {
             self.pending = false;
         }
-        self.told(address, word, one(acknowledged))
+        self.told(address, word, u32::from(acknowledged))
     }
 
     // The record of an instruction; the stalls of the next one are counted anew.
     fn told(&mut self, address: u32, word: u32, acknowledged: u32) -> Done {
-        let stalls = self.stalls;
-        self.stalls = 0;
         Done {
             address,
             word,
             clocks: clocks(word),
-            stalls,
+            stalls: std::mem::take(&mut self.stalls),
             acknowledged,
         }
     }
 
-    fn after(&self) -> u32 {
+    fn after(&self) -> u32
+        ensures { result < ROUND }
+    {
         (self.pc % ROUND + 1) % ROUND
     }
 
     fn goes(&self, word: u32) -> bool {
-        let row = pick(&CONDITIONS, word / 0x100_0000 % 8);
-        is_branch(word) && bit(row, self.flags) != bit(word, 27)
+        let row = CONDITIONS[(field(word, A) % 8) as usize];
+        class_of(word) == Class::Branch && bit(row, self.flags) != bit(word, 27)
     }
 
     // Where the instruction leads by itself.
@@ -467,28 +448,32 @@ impl Second {
         if !self.goes(word) {
             self.after()
         } else if bit(word, 29) {
-            (self.after() % ROUND + word % ROUND) % ROUND
+            (self.after() + word % ROUND) % ROUND
         } else {
-            self.register(c_of(word)) / 4 % ROUND
+            self.register(field(word, C)) / 4 % ROUND
         }
     }
 
     // What an instruction writes as it finishes: a load or store writes nothing any more.
     fn effect(&mut self, word: u32) {
-        if word < HALF {
-            let made = self.operated(word);
-            self.h = made.h;
-            self.flags = made.cv;
-            self.write(a_of(word), made.value);
-        } else if self.goes(word) && bit(word, 28) {
-            let link = self.after() % ROUND * 4;
-            self.write(15, link);
+        match class_of(word) {
+            Class::Operation => {
+                let made = self.operated(word);
+                self.h = made.h;
+                self.flags = made.cv;
+                self.write(field(word, A), made.value);
+            }
+            Class::Branch if bit(word, 28) && self.goes(word) => {
+                let link = self.after() * 4;
+                self.write(15, link);
+            }
+            _ => {}
         }
     }
 
     fn operand(&self, word: u32) -> u32 {
         if !bit(word, 30) {
-            self.register(c_of(word))
+            self.register(field(word, C))
         } else if bit(word, 28) {
             0xFFFF_0000 + word % 0x1_0000
         } else {
@@ -516,12 +501,10 @@ impl Second {
     }
 
     fn summed(&self, sum: Sum) -> Made {
-        let carry = if sum.carry { 2 } else { 0 };
-        let overflow = if sum.overflow { 1 } else { 0 };
         Made {
             value: sum.value,
             h: self.h,
-            cv: carry + overflow,
+            cv: 2 * u32::from(sum.carry) + u32::from(sum.overflow),
         }
     }
 
@@ -535,19 +518,19 @@ impl Second {
 
     // A register operation.
     fn operated(&self, word: u32) -> Made {
-        let x = self.register(b_of(word));
+        let x = self.register(field(word, B));
         let n = self.operand(word);
         let u = bit(word, 29);
-        let carry = if u { self.flags / 2 % 2 } else { 0 };
-        match word / 0x1_0000 % 16 {
+        let carry = u && bit(self.flags, 1);
+        match field(word, OP) {
             0 => self.plain(if u { self.moved(word) } else { n }),
             1 => self.plain(sums::doubled(x, n % 32)),
-            2 => self.plain(sums::halved(x, n % 32, false)),
-            3 => self.plain(sums::halved(x, n % 32, true)),
-            4 => self.plain(sums::mixed(x, n, 0b1000)),
-            5 => self.plain(sums::mixed(x, n, 0b0100)),
-            6 => self.plain(sums::mixed(x, n, 0b1110)),
-            7 => self.plain(sums::mixed(x, n, 0b0110)),
+            2 => self.plain(sums::halved(x, n % 32, |left| left >= HALF)),
+            3 => self.plain(sums::halved(x, n % 32, |left| left % 2 == 1)),
+            4 => self.plain(sums::mixed(x, n, |b, n| b && n)),
+            5 => self.plain(sums::mixed(x, n, |b, n| b && !n)),
+            6 => self.plain(sums::mixed(x, n, |b, n| b || n)),
+            7 => self.plain(sums::mixed(x, n, |b, n| b != n)),
             8 => self.summed(sums::added(x, n, carry)),
             9 => self.summed(sums::subtracted(x, n, carry)),
             10 => self.paired(sums::product(x, n, !u)),

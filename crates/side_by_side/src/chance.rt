@@ -1,4 +1,5 @@
 //! Numbers by chance, the same for the same seed.
+ghost use Rattle.std.specs.Prelude.{◌-◌, ◌≤◌};
 
 /// A stream of pseudo-random numbers: xorshift on 64 bits, of which a product's upper half is told.
 #[derive(Drop)]
@@ -31,7 +32,9 @@ impl Random {
     }
 
     /// A number below a bound, and 0 below a bound of 0.
-    pub fn below(&mut self, bound: u32) -> u32 {
+    pub fn below(&mut self, bound: u32) -> u32
+        ensures { result ≤ bound - 1 }
+    {
         let word = self.word();
         if bound == 0 { 0 } else { word % bound }
     }

@@ -1,16 +1,17 @@
 //! The course of a case by the second machine: what it finished on each line, and what each call on the first must therefore tell.
 use second::{Done, Second};
 use std::alloc::{AllocError, Global};
+use std::ops::Range;
 
 /// A finished instruction, and how many lines were taken by then.
-#[derive(Clone, Copy)]
+#[derive(Clone, Copy, PartialEq, Eq, Debug)]
 pub struct Finish {
     pub end: usize,
     pub done: Done,
 }
 
-/// How it stands after so many lines: instructions finished, lines stalled, and whether the step number is 0.
-#[derive(Clone, Copy)]
+// How it stands after so many lines: instructions finished, lines stalled, and whether the step number is 0.
+#[derive(Clone, Copy, PartialEq, Eq, Default, Debug)]
 struct Standing {
     finished: usize,
     stalls: usize,
@@ -24,8 +25,15 @@ pub struct Course {
     finishes: Vec<Finish>,
 }
 
+/// What clocking must answer: instructions finished, and stalled lines.
+#[derive(Clone, Copy, PartialEq, Eq, Debug)]
+pub struct Clocking {
+    pub finished: usize,
+    pub stalls: usize,
+}
+
 /// What a leap must answer.
-#[derive(Clone, Copy)]
+#[derive(Clone, Copy, PartialEq, Eq, Debug)]
 pub struct Leap {
     pub used: usize,
     pub written: usize,
@@ -35,19 +43,18 @@ pub struct Leap {
 impl Course {
     /// Clocks the second machine over lines, up to the first end of an instruction behind so many of them if there is one.
     pub fn follow(
-        heap: Global,
+        alloc: Global,
         second: &mut Second,
         lines: &[u8],
         least: usize,
     ) -> Result<Course, AllocError> {
-        let mut standings = Vec::new(heap);
-        let mut finishes = Vec::new(heap);
+        let mut finishes = Vec::new(alloc);
         let mut standing = Standing {
             finished: 0,
             stalls: 0,
             at_rest: true,
         };
-        standings.push(standing)?;
+        let mut standings = vec![in alloc; standing]?;
         for line in lines {
             let done = second.clock(*line);
             if let Some(done) = done {
@@ -71,13 +78,9 @@ impl Course {
         })
     }
 
+    // Behind the last line nothing stands, and no leap may begin.
     fn standing(&self, taken: usize) -> Standing {
-        let nowhere = Standing {
-            finished: 0,
-            stalls: 0,
-            at_rest: false,
-        };
-        self.standings.get(taken).copied().unwrap_or(nowhere)
+        self.standings.get(taken).copied().unwrap_or_default()
     }
 
     /// How many lines the second machine took.
@@ -92,7 +95,7 @@ impl Course {
 
     /// The instructions that it finished.
     pub fn finishes(&self) -> &[Finish] {
-        self.finishes.as_slice()
+        &self.finishes
     }
 
     /// Whether a leap may begin after so many lines.
@@ -100,30 +103,28 @@ impl Course {
         self.standing(taken).at_rest
     }
 
-    /// What clocking from one number of lines taken to another must answer: instructions finished, and stalled lines.
-    pub fn clocked(&self, from: usize, to: usize) -> (usize, usize) {
-        let before = self.standing(from);
-        let after = self.standing(to);
-        (
-            after.finished.saturating_sub(before.finished),
-            after.stalls.saturating_sub(before.stalls),
-        )
+    /// What clocking over some of the lines must answer.
+    pub fn clocked(&self, lines: Range<usize>) -> Clocking {
+        let before = self.standing(lines.start);
+        let after = self.standing(lines.end);
+        Clocking {
+            finished: after.finished.saturating_sub(before.finished),
+            stalls: after.stalls.saturating_sub(before.stalls),
+        }
     }
 
     // How many lines were taken when so many instructions were finished.
     fn end_of(&self, finished: usize) -> usize {
-        if finished == 0 {
-            return 0;
-        }
-        match self.finishes.get(finished - 1) {
-            Some(finish) => finish.end,
-            None => 0,
-        }
+        finished
+            .checked_sub(1)
+            .and_then(|last| self.finishes.get(last))
+            .map_or(0, |finish| finish.end)
     }
 
-    /// What a leap must answer that begins after `from` lines, is given those up to `to`, and has room for so many records.
-    pub fn leapt(&self, from: usize, to: usize, room: usize) -> Leap {
-        let (whole, _) = self.clocked(from, to);
+    /// What a leap must answer that is given some of the lines, and has room for so many records.
+    pub fn leapt(&self, lines: Range<usize>, room: usize) -> Leap {
+        let from = lines.start;
+        let whole = self.clocked(lines).finished;
         let written = whole.min(room);
         let before = self.standing(from).finished;
         let used = if written == 0 {
@@ -143,8 +144,7 @@ impl Course {
     /// were taken before the leap are not of its share.
     pub fn record(&self, from: usize, place: usize) -> Option<Done> {
         let before = self.standing(from).finished;
-        let finish = *self.finishes.get(before.saturating_add(place))?;
-        let mut done = finish.done;
+        let mut done = self.finishes.get(before.saturating_add(place))?.done;
         if place == 0 {
             let gone = from.saturating_sub(self.end_of(before));
             done.stalls = done.stalls.saturating_sub(gone.min(65_535) as u32);

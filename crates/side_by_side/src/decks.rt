@@ -1,18 +1,10 @@
 //! Decks by chance, most of them damaged: what each is refused for, by both machines.
 use crate::chance::Random;
-use crate::running::heard;
-use crate::tally::{Part, Report, Run};
+use crate::tally::{Heard, Outcome, Part, Report, Run};
 use deck::loading::load;
 use second::Second;
 use std::alloc::{AllocError, Global};
-
-// A row as it is written.
-#[derive(Clone, Copy)]
-struct Row {
-    letter: char,
-    first: u64,
-    second: u64,
-}
+use std::fmt;
 
 // What stands in words, registers and lines before a load.
 const WORD: u32 = 0x1234_5678;
@@ -22,6 +14,44 @@ const LINE: u8 = 9;
 // One more than the largest word.
 const WORD_END: u64 = 0x1_0000_0000;
 
+// What a row asks for.
+#[derive(Clone, Copy, PartialEq, Eq, Debug)]
+enum Row {
+    Word { address: u64, value: u64 },
+    Register { number: u64, value: u64 },
+    Lines { line: u64, count: u64 },
+}
+
+impl Row {
+    fn any(random: &mut Random, words: u32) -> Row {
+        match random.below(3) {
+            0 => Row::Word {
+                address: about(random, u64::from(words), 24),
+                value: about(random, WORD_END, 24),
+            },
+            1 => Row::Register {
+                number: about(random, 16, 24),
+                value: about(random, WORD_END, 24),
+            },
+            _ => Row::Lines {
+                line: about(random, 4, 24),
+                count: any_count(random),
+            },
+        }
+    }
+}
+
+// As it is written in a deck, without the newline.
+impl fmt::Display for Row {
+    fn fmt<W: fmt::Write>(&self, f: &mut fmt::Formatter<W>) -> fmt::Result {
+        match *self {
+            Row::Word { address, value } => write!(f, "W{address:>8}{value:>10}"),
+            Row::Register { number, value } => write!(f, "R{number:>8}{value:>10}"),
+            Row::Lines { line, count } => write!(f, "L{line:>8}{count:>10}"),
+        }
+    }
+}
+
 // What is loaded into.
 #[derive(Drop)]
 struct Target {
@@ -30,12 +60,79 @@ struct Target {
     lines: Vec<u8>,
 }
 
-fn blank(heap: Global, words: u32, room: u32) -> Result<Target, AllocError> {
-    Ok(Target {
-        words: vec![in heap; WORD; words as usize]?,
-        registers: [WORD; 16],
-        lines: vec![in heap; LINE; room as usize]?,
-    })
+impl Target {
+    fn new(alloc: Global, words: u32, room: u32) -> Result<Target, AllocError> {
+        Ok(Target {
+            words: vec![in alloc; WORD; words as usize]?,
+            registers: [WORD; 16],
+            lines: vec![in alloc; LINE; room as usize]?,
+        })
+    }
+
+    // What rows without fault leave. Answers how many lines they add.
+    fn put_all(&mut self, rows: &[Row]) -> Result<usize, AllocError> {
+        let room = self.lines.len();
+        self.lines.clear();
+        for row in rows {
+            self.put(*row)?;
+        }
+        let added = self.lines.len();
+        self.lines.resize(room, LINE)?;
+        Ok(added)
+    }
+
+    fn put(&mut self, row: Row) -> Result<(), AllocError> {
+        match row {
+            Row::Word { address, value } => store(&mut self.words, address, value),
+            Row::Register { number, value } => store(&mut self.registers, number, value),
+            Row::Lines { line, count } => {
+                let end = self.lines.len().saturating_add(count.min(100_000) as usize);
+                self.lines.resize(end, (line % 256) as u8)?;
+            }
+        }
+        Ok(())
+    }
+}
+
+fn store(values: &mut [u32], place: u64, value: u64) {
+    if let Some(at) = values.get_mut(place as usize) {
+        *at = (value % WORD_END) as u32;
+    }
+}
+
+// How many values of two lists differ.
+fn unlike<T: PartialEq>(first: &[T], second: &[T]) -> u64 {
+    first
+        .iter()
+        .zip(second)
+        .filter(|(one, other)| one != other)
+        .count() as u64
+}
+
+fn compare_targets(
+    report: &mut Report,
+    outcome: Outcome,
+    loaded: &Target,
+    must: &Target,
+) -> Result<(), AllocError> {
+    report.compare(
+        Part::DeckWords(outcome),
+        0u8,
+        unlike(&loaded.words, &must.words),
+        0u8,
+    )?;
+    report.compare(
+        Part::DeckRegisters(outcome),
+        0u8,
+        unlike(&loaded.registers, &must.registers),
+        0u8,
+    )?;
+    report.compare(
+        Part::DeckLines(outcome),
+        0u8,
+        unlike(&loaded.lines, &must.lines),
+        0u8,
+    )
 }
 
 // A number below a bound, or, once in so many times, one at the bound or far above it.
@@ -53,26 +150,6 @@ fn about(random: &mut Random, bound: u64, times: u32) -> u64 {
     u64::from(random.word()) % bound.max(1)
 }
 
-fn any_row(random: &mut Random, words: u32) -> Row {
-    match random.below(3) {
-        0 => Row {
-            letter: 'W',
-            first: about(random, u64::from(words), 24),
-            second: about(random, WORD_END, 24),
-        },
-        1 => Row {
-            letter: 'R',
-            first: about(random, 16, 24),
-            second: about(random, WORD_END, 24),
-        },
-        _ => Row {
-            letter: 'L',
-            first: about(random, 4, 24),
-            second: any_count(random),
-        },
-    }
-}
-
 fn any_count(random: &mut Random) -> u64 {
     if random.one_in(3) {
         about(random, 65_536, 8)
@@ -83,31 +160,22 @@ fn any_count(random: &mut Random) -> u64 {
 
 fn row_count(random: &mut Random) -> u32 {
     match random.below(300) {
-        0 => random.below(12).wrapping_add(3_270),
+        0 => random.below(12) + 3_270,
         _ => random.below(12),
     }
 }
 
-fn any_rows(heap: Global, random: &mut Random, words: u32) -> Result<Vec<Row>, AllocError> {
-    let mut rows = Vec::new(heap);
-    for _ in 0..row_count(random) {
-        rows.push(any_row(random, words))?;
-    }
-    Ok(rows)
+fn any_rows(alloc: Global, random: &mut Random, words: u32) -> Result<Vec<Row>, AllocError> {
+    let count = row_count(random);
+    (0..count).map(|_| Row::any(random, words)).collect(alloc)
 }
 
-fn written(heap: Global, rows: &[Row]) -> Result<Vec<u8>, AllocError> {
-    let mut deck = Vec::new(heap);
+fn written(alloc: Global, rows: &[Row]) -> Result<Vec<u8>, AllocError> {
+    let mut deck = String::new(alloc);
     for row in rows {
-        let Row {
-            letter,
-            first,
-            second,
-        } = *row;
-        let text = format!(in heap; "{letter}{first:>8}{second:>10}\n")?;
-        deck.extend_from_slice(text.as_bytes())?;
+        writeln!(deck, "{row}")?;
     }
-    Ok(deck)
+    Ok(deck.into_bytes())
 }
 
 // A byte that is near to what a deck has.
@@ -163,114 +231,70 @@ fn damage(random: &mut Random, deck: &mut Vec<u8>) -> Result<(), AllocError> {
     Ok(())
 }
 
-// What a row without fault leaves, where `used` lines stand; answers how many then stand.
-fn expect(target: &mut Target, row: Row, used: usize) -> usize {
-    let place = row.first as usize;
-    let value = (row.second % WORD_END) as u32;
-    match row.letter {
-        'W' => put(&mut target.words, place, value),
-        'R' => put(&mut target.registers, place, value),
-        _ => return add(&mut target.lines, row, used),
-    }
-    used
-}
-
-fn put(values: &mut [u32], place: usize, value: u32) {
-    if place < values.len() {
-        values[place] = value;
-    }
-}
-
-fn add(lines: &mut [u8], row: Row, used: usize) -> usize {
-    let count = row.second.min(100_000) as usize;
-    let end = used.saturating_add(count);
-    for (at, line) in lines.iter_mut().enumerate() {
-        if used <= at && at < end {
-            *line = (row.first % 256) as u8;
-        }
-    }
-    end
-}
-
-// How many values of two lists differ.
-fn unlike<T: PartialEq>(first: &[T], second: &[T]) -> u64 {
-    let mut count: u64 = 0;
-    for (one, other) in first.iter().zip(second.iter()) {
-        if *one != *other {
-            count = count.saturating_add(1);
-        }
-    }
-    count
-}
-
-fn compare_targets(
-    report: &mut Report,
-    part: Part,
-    loaded: &Target,
-    must: &Target,
-) -> Result<(), AllocError> {
-    report.compare(part, 0, unlike(&loaded.words, &must.words), 0)?;
-    report.compare(part, 1, unlike(&loaded.registers, &must.registers), 0)?;
-    report.compare(part, 2, unlike(&loaded.lines, &must.lines), 0)
-}
-
-// Loads a deck and compares its refusal. A refused deck changes nothing; an undamaged one that is loaded leaves what its rows say.
-fn try_deck(
-    heap: Global,
-    deck: &[u8],
-    rows: &[Row],
-    damaged: bool,
+// A deck, the rows that it was written from unless it was damaged since, and what it is loaded into: so many words, and room for so many lines.
+#[derive(Drop)]
+struct Sample {
+    rows: Option<Vec<Row>>,
+    deck: Vec<u8>,
     words: u32,
     room: u32,
-    report: &mut Report,
-) -> Result<(), AllocError> {
-    let mut loaded = blank(heap, words, room)?;
-    let mut must = blank(heap, words, room)?;
-    let told = load(
-        deck,
-        &mut loaded.words,
-        &mut loaded.registers,
-        &mut loaded.lines,
-    );
-    let fault = Second::deck_fault(deck, words, room);
-    match told {
-        Err(refusal) => {
-            report.compare_refusals(0, Some(heard(refusal)), fault)?;
-            compare_targets(report, Part::Kept, &loaded, &must)
+}
+
+impl Sample {
+    fn new(alloc: Global, random: &mut Random) -> Result<Sample, AllocError> {
+        let words = random.below(300);
+        let room = if random.one_in(3) {
+            65_535
+        } else {
+            random.below(120)
+        };
+        let rows = any_rows(alloc, random, words)?;
+        let mut deck = written(alloc, &rows)?;
+        let damages = random.below(4);
+        for _ in 0..damages {
+            damage(random, &mut deck)?;
         }
-        Ok(count) => {
-            report.loaded = report.loaded.saturating_add(1);
-            report.compare_refusals(0, None, fault)?;
-            if damaged {
-                return Ok(());
-            }
-            let mut used = 0;
-            for row in rows {
-                used = expect(&mut must, *row, used);
-            }
-            report.compare(Part::Loaded, 3, count as u64, used as u64)?;
-            compare_targets(report, Part::Loaded, &loaded, &must)
-        }
+        Ok(Sample {
+            rows: (damages == 0).then_some(rows),
+            deck,
+            words,
+            room,
+        })
+    }
+
+    fn target(&self, alloc: Global) -> Result<Target, AllocError> {
+        Target::new(alloc, self.words, self.room)
+    }
+
+    // Loads the deck and compares its refusal. A refused deck changes nothing; an undamaged one that is loaded leaves what its rows say.
+    fn compare(&self, alloc: Global, report: &mut Report) -> Result<(), AllocError> {
+        let mut loaded = self.target(alloc)?;
+        let mut must = self.target(alloc)?;
+        let told = load(
+            &self.deck,
+            &mut loaded.words,
+            &mut loaded.registers,
+            &mut loaded.lines,
+        );
+        let fault = Second::check_deck(&self.deck, self.words, self.room).err();
+        report.compare_refusals(0, told.err(), fault.map(Heard::from))?;
+        let Ok(used) = told else {
+            return compare_targets(report, Outcome::Refused, &loaded, &must);
+        };
+        report.counts.loaded += 1;
+        let Some(rows) = &self.rows else {
+            return Ok(());
+        };
+        let added = must.put_all(rows)?;
+        report.compare(Part::LinesAdded, 0u8, used as u64, added as u64)?;
+        compare_targets(report, Outcome::Loaded, &loaded, &must)
     }
 }
 
 /// The deck of a seed.
-pub fn run(heap: Global, seed: u64, report: &mut Report) -> Result<(), AllocError> {
-    let mut random = Random::new(seed);
+pub fn run(alloc: Global, seed: u64, report: &mut Report) -> Result<(), AllocError> {
     report.seed = seed;
     report.run = Run::Deck;
-    report.decks = report.decks.saturating_add(1);
-    let words = random.below(300);
-    let room = if random.one_in(3) {
-        65_535
-    } else {
-        random.below(120)
-    };
-    let rows = any_rows(heap, &mut random, words)?;
-    let mut deck = written(heap, &rows)?;
-    let damages = random.below(4);
-    for _ in 0..damages {
-        damage(&mut random, &mut deck)?;
-    }
-    try_deck(heap, &deck, &rows, damages > 0, words, room, report)
+    report.counts.decks += 1;
+    Sample::new(alloc, &mut Random::new(seed))?.compare(alloc, report)
 }

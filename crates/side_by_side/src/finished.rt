@@ -1,99 +1,80 @@
 //! What kinds of instructions the cases finished.
+use isa::{Instruction, Kind};
 use second::Done;
 use std::alloc::{AllocError, Global};
+use std::collections::BTreeMap;
+use std::num::Saturating;
 
-// The kinds of words, by bits 31 to 28 and 19 to 16.
-const KINDS: usize = 256;
+/// How many instructions of each class were finished; besides, how many returned from interrupt, were the word 0, or acknowledged a tick.
+#[derive(Clone, Copy, PartialEq, Eq, Default, Debug)]
+pub struct Classes {
+    pub operations: Saturating<u64>,
+    pub multiplies: Saturating<u64>,
+    pub divides: Saturating<u64>,
+    pub loads: Saturating<u64>,
+    pub stores: Saturating<u64>,
+    pub branches: Saturating<u64>,
+    pub returns: Saturating<u64>,
+    pub empty: Saturating<u64>,
+    pub acknowledged: Saturating<u64>,
+}
 
-/// Finished instructions, counted.
+impl Classes {
+    fn count(&mut self, done: Done) {
+        let instruction = Instruction { word: done.word };
+        match instruction.kind() {
+            Kind::Register(_) => self.operations += 1,
+            Kind::Multiply => self.multiplies += 1,
+            Kind::Divide => self.divides += 1,
+            Kind::Load => self.loads += 1,
+            Kind::Store => self.stores += 1,
+            Kind::Branch => {
+                self.branches += 1;
+                if instruction.returns() {
+                    self.returns += 1;
+                }
+            }
+        }
+        if done.word == 0 {
+            self.empty += 1;
+        }
+        self.acknowledged += u64::from(done.acknowledged);
+    }
+}
+
+// The code of a kind of word: its bits 31 to 28, and 19 to 16.
+type Code = (u32, u32);
+
+/// Finished instructions, counted by class and by kind of word.
 #[derive(Drop)]
 pub struct Finished {
-    pub operations: u64,
-    pub multiplies: u64,
-    pub divides: u64,
-    pub loads: u64,
-    pub stores: u64,
-    pub branches: u64,
-    pub returns: u64,
-    pub empty: u64,
-    pub acknowledged: u64,
-    kinds: Vec<u64>,
-}
-
-fn more(count: &mut u64, by: u64) {
-    *count = count.saturating_add(by);
-}
-
-fn bit(word: u32, mask: u32) -> bool {
-    word & mask != 0
+    pub classes: Classes,
+    kinds: BTreeMap<Code, Saturating<u64>>,
 }
 
 impl Finished {
-    pub fn new(heap: Global) -> Result<Finished, AllocError> {
-        let kinds = vec![in heap; 0u64; KINDS]?;
-        Ok(Finished {
-            operations: 0,
-            multiplies: 0,
-            divides: 0,
-            loads: 0,
-            stores: 0,
-            branches: 0,
-            returns: 0,
-            empty: 0,
-            acknowledged: 0,
-            kinds,
-        })
+    pub fn new(alloc: Global) -> Finished {
+        Finished {
+            classes: Classes::default(),
+            kinds: BTreeMap::new(alloc),
+        }
     }
 
     /// Counts an instruction.
-    pub fn count(&mut self, done: Done) {
-        let word = done.word;
-        match (word >> 30, (word >> 16) % 16) {
-            (0 | 1, 10) => more(&mut self.multiplies, 1),
-            (0 | 1, 11) => more(&mut self.divides, 1),
-            (0 | 1, _) => more(&mut self.operations, 1),
-            (2, _) => self.count_access(word),
-            _ => self.count_branch(word),
-        }
-        if word == 0 {
-            more(&mut self.empty, 1);
-        }
-        more(&mut self.acknowledged, u64::from(done.acknowledged));
-        self.count_kind(word);
+    pub fn count(&mut self, done: Done) -> Result<(), AllocError> {
+        self.classes.count(done);
+        let code = (done.word >> 28, (done.word >> 16) % 16);
+        *self.kinds.entry(code)?.or_default() += 1;
+        Ok(())
     }
 
-    fn count_access(&mut self, word: u32) {
-        if bit(word, 1 << 29) {
-            more(&mut self.stores, 1);
-        } else {
-            more(&mut self.loads, 1);
-        }
+    /// How many kinds were finished.
+    pub fn kinds(&self) -> usize {
+        self.kinds.len()
     }
 
-    fn count_branch(&mut self, word: u32) {
-        more(&mut self.branches, 1);
-        if !bit(word, 1 << 29) && bit(word, 1 << 4) {
-            more(&mut self.returns, 1);
-        }
-    }
-
-    fn count_kind(&mut self, word: u32) {
-        let number = (word >> 28) * 16 + (word >> 16) % 16;
-        if let Some(count) = self.kinds.get_mut(number as usize) {
-            *count = count.saturating_add(1);
-        }
-    }
-
-    /// How many kinds were finished, and how often the rarest of them was.
-    pub fn kinds(&self) -> (u64, u64) {
-        let mut seen: u64 = 0;
-        let mut least = u64::MAX;
-        for count in self.kinds.iter() {
-            if *count > 0 {
-                seen = seen.saturating_add(1);
-                least = least.min(*count);
-            }
-        }
-        (seen, least)
+    /// How often the rarest of them was.
+    pub fn rarest(&self) -> u64 {
+        self.kinds.values().map(|count| count.0).min().unwrap_or(0)
     }
 }

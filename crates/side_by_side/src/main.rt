@@ -10,15 +10,16 @@ mod finished;
 mod running;
 mod runs;
 mod tally;
+mod trial;
 mod words;
 
 use cases::Length;
 use chance::Random;
-use course::Course;
-use second::Second;
 use std::alloc::{AllocError, Global};
 use std::io;
-use tally::{Report, Run};
+use std::ops::Range;
+use tally::{Counts, Report};
+use trial::Trial;
 
 // How many cases of each length there are, and how many decks.
 const SHORT: u64 = 20_000;
@@ -29,151 +30,123 @@ const WHOLE_FEEDS: u64 = 12;
 
 const DECKS: u64 = 20_000;
 
-fn count(report: &mut Report, course: &Course) {
-    report.programs = report.programs.saturating_add(1);
-    report.lines = report.lines.saturating_add(course.lines() as u64);
-    report.stalls = report.stalls.saturating_add(course.stalls() as u64);
-    for finish in course.finishes() {
-        report.instructions = report.instructions.saturating_add(1);
-        report.finished.count(finish.done);
-    }
-}
-
-// The three runs of the first machine over a case whose course is known.
-fn run_first(
-    heap: Global,
-    case: &cases::Case,
-    length: Length,
-    course: &Course,
-    second: &Second,
-    random: &mut Random,
-    report: &mut Report,
-) -> Result<(), AllocError> {
-    report.run = Run::ByClock;
-    runs::by_clock(case, length, course, second, random, report)?;
-    report.run = Run::ByLeap;
-    runs::by_leap(heap, case, length, course, second, random, report)?;
-    report.run = Run::Mixed;
-    runs::mixed(heap, case, length, course, second, random, report)
-}
-
-// The case of a seed. Half of the cases end as an instruction ends, the others anywhere.
+// The case of a seed.
 fn run_case(
-    heap: Global,
+    alloc: Global,
     seed: u64,
     length: Length,
     report: &mut Report,
 ) -> Result<(), AllocError> {
     let mut random = Random::new(seed);
     report.seed = seed;
-    let mut case = cases::make(heap, &mut random, length)?;
-    let mut second = running::begin_second(&case, report)?;
-    let least = if random.one_in(2) {
-        case.lines.len() / 2
-    } else {
-        usize::MAX
-    };
-    let course = Course::follow(heap, &mut second, &case.lines, least)?;
-    case.lines.truncate(course.lines());
-    count(report, &course);
-    run_first(heap, &case, length, &course, &second, &mut random, report)
+    let trial = Trial::new(alloc, length, &mut random, report)?;
+    report.count(&trial.course)?;
+    runs::run_all(&trial, &mut random, report)
 }
 
 fn run_cases(
-    heap: Global,
-    first: u64,
-    count: u64,
+    alloc: Global,
+    seeds: Range<u64>,
     length: Length,
     report: &mut Report,
 ) -> Result<(), AllocError> {
-    for index in 0..count {
-        run_case(heap, first.wrapping_add(index), length, report)?;
+    for seed in seeds {
+        run_case(alloc, seed, length, report)?;
     }
     Ok(())
 }
 
-fn compare_all(heap: Global, report: &mut Report) -> Result<(), AllocError> {
-    run_cases(heap, 1, SHORT, Length::Short, report)?;
-    run_cases(heap, 1_000_000, LONG, Length::Long, report)?;
-    run_cases(heap, 2_000_000, WHOLE_FEEDS, Length::WholeFeed, report)?;
-    for index in 0..DECKS {
-        decks::run(heap, 3_000_000u64.wrapping_add(index), report)?;
+fn compare_all(alloc: Global, report: &mut Report) -> Result<(), AllocError> {
+    run_cases(alloc, 1..1 + SHORT, Length::Short, report)?;
+    run_cases(alloc, 1_000_000..1_000_000 + LONG, Length::Long, report)?;
+    run_cases(
+        alloc,
+        2_000_000..2_000_000 + WHOLE_FEEDS,
+        Length::WholeFeed,
+        report,
+    )?;
+    for seed in 3_000_000..3_000_000 + DECKS {
+        decks::run(alloc, seed, report)?;
     }
     Ok(())
 }
 
-fn show_programs(rt: &HostRuntime, report: &Report) -> io::Result<()> {
+fn show_programs(rt: &impl Print, counts: &Counts) -> io::Result<()> {
     println!(rt;
         "programs: {programs}, each by clock, by leap, mixed, and by the second machine",
-        programs = report.programs
+        programs = counts.programs.0
     )?;
     println!(rt;
         "lines: {lines}, {stalls} of them stalled",
-        lines = report.lines,
-        stalls = report.stalls
+        lines = counts.lines.0,
+        stalls = counts.stalls.0
     )?;
     println!(rt;
         "calls: {clockings} clockings, {leaps} leaps",
-        clockings = report.clockings,
-        leaps = report.leaps
+        clockings = counts.clockings.0,
+        leaps = counts.leaps.0
     )
 }
 
-fn show_finished(rt: &HostRuntime, report: &Report) -> io::Result<()> {
+fn show_finished(rt: &impl Print, report: &Report) -> io::Result<()> {
     let finished = &report.finished;
+    let classes = &finished.classes;
     println!(rt;
         "instructions: {instructions}, {acknowledged} of them with an acknowledged tick",
-        instructions = report.instructions,
-        acknowledged = finished.acknowledged
+        instructions = report.counts.instructions.0,
+        acknowledged = classes.acknowledged.0
     )?;
     println!(rt;
         "  register operations: {operations}, {empty} of them the word 0; multiplies: {multiplies}; divides: {divides}",
-        operations = finished.operations,
-        empty = finished.empty,
-        multiplies = finished.multiplies,
-        divides = finished.divides
+        operations = classes.operations.0,
+        empty = classes.empty.0,
+        multiplies = classes.multiplies.0,
+        divides = classes.divides.0
     )?;
     println!(rt;
         "  loads: {loads}; stores: {stores}; branches: {branches}, {returns} of them returns from interrupt",
-        loads = finished.loads,
-        stores = finished.stores,
-        branches = finished.branches,
-        returns = finished.returns
+        loads = classes.loads.0,
+        stores = classes.stores.0,
+        branches = classes.branches.0,
+        returns = classes.returns.0
     )?;
-    let (kinds, least) = finished.kinds();
-    println!(rt; "  kinds of words: {kinds} of 256, each at least {least} times")
+    println!(rt;
+        "  kinds of words: {kinds} of 256, each at least {rarest} times",
+        kinds = finished.kinds(),
+        rarest = finished.rarest()
+    )
 }
 
-fn show_refusals(rt: &HostRuntime, report: &Report) -> io::Result<()> {
+fn show_refusals(rt: &impl Print, report: &Report) -> io::Result<()> {
     println!(rt;
         "decks: {decks}, {loaded} of them loaded",
-        decks = report.decks,
-        loaded = report.loaded
+        decks = report.counts.decks.0,
+        loaded = report.counts.loaded.0
     )?;
     print!(rt; "refusals by number:")?;
-    for number in 5..13 {
-        let count = report.refusals.of(number);
+    for number in 5..=12 {
+        let count = report.refusals.get(&number).map_or(0, |count| count.0);
         print!(rt; " {number}: {count}")?;
     }
     println!(rt)
 }
 
-fn show(rt: &HostRuntime, report: &Report) -> io::Result<()> {
-    show_programs(rt, report)?;
+fn show(rt: &impl Print, report: &Report) -> io::Result<()> {
+    show_programs(rt, &report.counts)?;
     show_finished(rt, report)?;
     show_refusals(rt, report)?;
-    for difference in report.kept.iter() {
+    for difference in &report.kept {
         println!(rt; "{difference}")?;
     }
     println!(rt;
         "comparisons: {compared}, differences: {differences}",
-        compared = report.compared,
-        differences = report.differences
+        compared = report.counts.compared.0,
+        differences = report.counts.differences.0
     )
 }
 
-fn run(rt: &HostRuntime) -> anyhow::Result<()> {
-    let mut report = Report::new(rt.alloc())?;
+fn run(rt: &(impl Print + AllocGlobal)) -> anyhow::Result<()> {
+    let mut report = Report::new(rt.alloc());
     compare_all(rt.alloc(), &mut report)?;
     show(rt, &report)?;
     Ok(())

@@ -1,16 +1,14 @@
 //! The first machine on a case, call by call, each call compared with the course of the second.
-use crate::cases::Case;
 use crate::chance::Random;
-use crate::course::Course;
-use crate::tally::{Part, Report};
+use crate::tally::{Heard, Part, Report};
+use crate::trial::Trial;
 use bus::Bus;
 use card::Card;
 use cpu::{Held, Live};
-use isa::Flags;
 use machine::Record;
-use refusal::Refusal;
 use second::{Done, Second};
-use std::alloc::{AllocError, Global};
+use std::alloc::AllocError;
+use std::ops::Range;
 
 /// The most lines that a call is given.
 pub const MOST_LINES: usize = 65_535;
@@ -24,70 +22,22 @@ const MARK: Record = Record {
     acknowledged: 0xA5,
 };
 
-/// The first machine at work: its card, its core, and how many of the case's lines it has taken.
+// What a leap inside an instruction is refused for.
+const INSIDE_INSTRUCTION: Heard = Heard {
+    number: 7,
+    place: 0,
+};
+
+/// The first machine at work on a case: its card, its core, and how many of the case's lines it has taken; beside it, the numbers that its calls are
+/// drawn by, and the report of what they tell.
 #[derive(Drop)]
-pub struct Running {
+pub struct Running<'a> {
+    pub trial: &'a Trial,
+    pub random: &'a mut Random,
+    report: &'a mut Report,
     card: Card,
     live: Live,
     taken: usize,
-}
-
-/// What a refusal tells: number and place.
-pub fn heard(refusal: Refusal) -> (u32, u32) {
-    (u32::from(refusal.number()), refusal.place())
-}
-
-fn digit(flag: bool, value: u64) -> u64 {
-    if flag { value } else { 0 }
-}
-
-// N, Z, C and V in bits 3 to 0.
-fn number_of(flags: Flags) -> u64 {
-    digit(flags.n, 8) | digit(flags.z, 4) | digit(flags.c, 2) | digit(flags.v, 1)
-}
-
-// The lines from a place to another; fewer at the end.
-fn part(lines: &[u8], from: usize, to: usize) -> &[u8] {
-    let front = lines.split_at(to.min(lines.len())).0;
-    front.split_at(from.min(front.len())).1
-}
-
-// A held core with the case's registers preset, and numbers over 15 tried; the second machine beside it.
-fn preset(case: &Case, second: &mut Second, report: &mut Report) -> Result<Held, AllocError> {
-    let mut held = Held::new();
-    for number in 0..20 {
-        let value = match case.registers.get(number as usize) {
-            Some(value) => *value,
-            None => 7,
-        };
-        let told = held.preset(number, value).is_ok();
-        let done = second.preset(number, value);
-        report.compare(
-            Part::Preset,
-            u64::from(number),
-            u64::from(told),
-            u64::from(done),
-        )?;
-    }
-    Ok(held)
-}
-
-/// The second machine on a case: preset beside a held core of the first, which must hold the same, and started.
-pub fn begin_second(case: &Case, report: &mut Report) -> Result<Second, AllocError> {
-    let mut second = Second::new(case.words.clone()?, &case.feed);
-    let held = preset(case, &mut second, report)?;
-    for number in 0..16 {
-        if let Ok(value) = held.register(number) {
-            report.compare(
-                Part::Register,
-                u64::from(number),
-                u64::from(value),
-                u64::from(second.register(number)),
-            )?;
-        }
-    }
-    second.start();
-    Ok(second)
 }
 
 fn compare_record(
@@ -96,271 +46,181 @@ fn compare_record(
     record: Record,
     done: Done,
 ) -> Result<(), AllocError> {
-    report.compare(
-        Part::Address,
-        place,
-        u64::from(record.address),
-        u64::from(done.address),
-    )?;
-    report.compare(
-        Part::Word,
-        place,
-        u64::from(record.word),
-        u64::from(done.word),
-    )?;
-    report.compare(
-        Part::Clocks,
-        place,
-        u64::from(record.clocks),
-        u64::from(done.clocks),
-    )?;
-    report.compare(
-        Part::RecordStalls,
-        place,
-        u64::from(record.stalls),
-        u64::from(done.stalls),
-    )?;
+    report.compare(Part::Address, place, record.address, done.address)?;
+    report.compare(Part::Word, place, record.word, done.word)?;
+    report.compare(Part::Clocks, place, record.clocks, done.clocks)?;
+    report.compare(Part::RecordStalls, place, record.stalls, done.stalls)?;
     report.compare(
         Part::Acknowledged,
         place,
-        u64::from(record.acknowledged),
-        u64::from(done.acknowledged),
+        record.acknowledged,
+        done.acknowledged,
     )
 }
 
 // That a place of a trace is as it was.
 fn compare_mark(report: &mut Report, place: u64, record: Record) -> Result<(), AllocError> {
-    let same = record.address == MARK.address
-        && record.word == MARK.word
-        && record.clocks == MARK.clocks
-        && record.stalls == MARK.stalls
-        && record.acknowledged == MARK.acknowledged;
-    report.compare(Part::Unwritten, place, u64::from(same), 1)
-}
-
-// The whole of a trace after a leap that began after `from` lines and must have written so many records.
-fn compare_trace(
-    report: &mut Report,
-    course: &Course,
-    from: usize,
-    written: usize,
-    trace: &[Record],
-) -> Result<(), AllocError> {
-    for (place, record) in trace.iter().enumerate() {
-        let expected = if place < written {
-            course.record(from, place)
-        } else {
-            None
-        };
-        match expected {
-            Some(done) => compare_record(report, from as u64, *record, done)?,
-            None => compare_mark(report, from as u64, *record)?,
-        }
-    }
-    Ok(())
-}
-
-fn compare_shown(
-    report: &mut Report,
-    card: &Card,
-    second: &Second,
-    from: u32,
-    to: u32,
-) -> Result<(), AllocError> {
-    for at in from..to {
-        report.compare(
-            Part::Shown,
-            u64::from(at),
-            u64::from(card.fetch(at)),
-            u64::from(second.shown(at)),
-        )?;
-    }
-    Ok(())
-}
-
-// All of a memory of so many words and a little more, both ends of the ROM, the panel, and on to address 0 again.
-fn compare_buses(
-    report: &mut Report,
-    card: &Card,
-    second: &Second,
-    words: usize,
-) -> Result<(), AllocError> {
-    let count = words.min(300_000) as u32;
-    compare_shown(report, card, second, 0, count.saturating_add(4))?;
-    compare_shown(report, card, second, 0x3F_F7FE, 0x3F_F804)?;
-    compare_shown(report, card, second, 0x3F_F9FE, 0x3F_FA02)?;
-    compare_shown(report, card, second, 0x3F_FFE8, 0x40_0004)
+    report.compare(Part::Unwritten, place, record == MARK, true)
 }
 
 fn compare_registers(report: &mut Report, held: &Held, second: &Second) -> Result<(), AllocError> {
     for number in 0..16 {
-        let value = match held.register(number) {
-            Ok(value) => u64::from(value),
-            Err(_) => u64::MAX,
-        };
-        report.compare(
-            Part::Register,
-            u64::from(number),
-            value,
-            u64::from(second.register(number)),
-        )?;
+        let value = held.register(number).map_or(u64::MAX, u64::from);
+        report.compare(Part::Register, number, value, second.register(number))?;
     }
-    report.compare(Part::H, 0, u64::from(held.h()), u64::from(second.h()))?;
-    report.compare(
-        Part::Flags,
-        0,
-        number_of(held.flags()),
-        u64::from(second.flags()),
-    )
+    report.compare(Part::H, 0u8, held.h(), second.h())?;
+    report.compare(Part::Flags, 0u8, u8::from(held.flags()), second.flags())
 }
 
-impl Running {
+impl<'a> Running<'a> {
     /// A card of the case, and a core with its registers, released over it.
-    pub fn begin(case: &Case) -> Result<Running, AllocError> {
-        let card = card::stack(case.words.clone()?, &case.feed);
-        let live = Held::with_registers(case.registers).release(&card);
+    pub fn begin(
+        trial: &'a Trial,
+        random: &'a mut Random,
+        report: &'a mut Report,
+    ) -> Result<Running<'a>, AllocError> {
+        let card = card::stack(trial.case.words.clone()?, &trial.case.feed);
+        let live = Held::with_registers(trial.case.registers).release(&card);
         Ok(Running {
+            trial,
+            random,
+            report,
             card,
             live,
             taken: 0,
         })
     }
 
-    /// How many lines of a course are left.
-    pub fn left(&self, course: &Course) -> usize {
-        course.lines().saturating_sub(self.taken)
+    /// How many lines of the course are left.
+    pub fn left(&self) -> usize {
+        self.trial.course.lines().saturating_sub(self.taken)
+    }
+
+    // The lines at some places; none where they end before.
+    fn lines(&self, places: Range<usize>) -> &'a [u8] {
+        self.trial.case.lines.get(places).unwrap_or(&[])
     }
 
     /// Clocks so many of the next lines.
-    pub fn clock(
-        &mut self,
-        case: &Case,
-        course: &Course,
-        count: usize,
-        report: &mut Report,
-    ) -> Result<(), AllocError> {
+    pub fn clock(&mut self, count: usize) -> Result<(), AllocError> {
         let from = self.taken;
         let to = from.saturating_add(count);
-        report.clockings = report.clockings.saturating_add(1);
-        let told = self.live.clock(&mut self.card, part(&case.lines, from, to));
+        let lines = self.lines(from..to);
+        self.report.counts.clockings += 1;
+        let told = self.live.clock(&mut self.card, lines);
         self.taken = to;
         let (finished, stalls) = told.unwrap_or((0, 0));
-        let (must_finish, must_stall) = course.clocked(from, to);
-        report.compare(
-            Part::Instructions,
-            from as u64,
-            u64::from(finished),
-            must_finish as u64,
-        )?;
-        report.compare(
-            Part::Stalls,
-            from as u64,
-            u64::from(stalls),
-            must_stall as u64,
-        )?;
-        self.compare_answer(from, told.err(), None, report)
-    }
-
-    // What a call was refused for, and what it must be refused for.
-    fn compare_answer(
-        &self,
-        from: usize,
-        refusal: Option<Refusal>,
-        fault: Option<(u32, u32)>,
-        report: &mut Report,
-    ) -> Result<(), AllocError> {
-        let first = match refusal {
-            Some(refusal) => Some(heard(refusal)),
-            None => None,
-        };
-        report.compare_refusals(from as u64, first, fault)
+        let must = self.trial.course.clocked(from..to);
+        let place = from as u64;
+        let report = &mut *self.report;
+        report.compare(Part::Instructions, place, finished, must.finished as u64)?;
+        report.compare(Part::Stalls, place, stalls, must.stalls as u64)?;
+        report.compare_refusals(place, told.err(), None)
     }
 
     /// Leaps over so many of the next lines, with room for so many records. Answers how many of them it used.
-    pub fn leap(
-        &mut self,
-        heap: Global,
-        case: &Case,
-        course: &Course,
-        count: usize,
-        room: usize,
-        report: &mut Report,
-    ) -> Result<usize, AllocError> {
+    pub fn leap(&mut self, count: usize, room: usize) -> Result<usize, AllocError> {
+        let course = &self.trial.course;
         let from = self.taken;
         let to = from.saturating_add(count);
-        let mut trace = vec![in heap; MARK; room]?;
-        report.leaps = report.leaps.saturating_add(1);
-        let told = self
-            .live
-            .leap(&mut self.card, part(&case.lines, from, to), &mut trace);
+        let lines = self.lines(from..to);
+        let mut trace = vec![in self.trial.alloc; MARK; room]?;
+        self.report.counts.leaps += 1;
+        let told = self.live.leap(&mut self.card, lines, &mut trace);
+        let place = from as u64;
         if !course.at_rest(from) {
-            self.compare_answer(from, told.err(), Some((7, 0)), report)?;
-            compare_trace(report, course, from, 0, &trace)?;
+            self.report
+                .compare_refusals(place, told.err(), Some(INSIDE_INSTRUCTION))?;
+            self.compare_trace(&trace, 0)?;
             return Ok(0);
         }
         let (used, written, further) = told.unwrap_or((0, 0, 0));
-        let must = course.leapt(from, to, room);
-        report.compare(
-            Part::LinesUsed,
-            from as u64,
-            u64::from(used),
-            must.used as u64,
-        )?;
-        report.compare(
-            Part::Written,
-            from as u64,
-            u64::from(written),
-            must.written as u64,
-        )?;
-        report.compare(
-            Part::Further,
-            from as u64,
-            u64::from(further),
-            u64::from(must.further),
-        )?;
-        self.compare_answer(from, told.err(), None, report)?;
-        compare_trace(report, course, from, must.written, &trace)?;
+        let must = course.leapt(from..to, room);
+        let report = &mut *self.report;
+        report.compare(Part::LinesUsed, place, used, must.used as u64)?;
+        report.compare(Part::Written, place, written, must.written as u64)?;
+        report.compare(Part::Further, place, further, must.further)?;
+        report.compare_refusals(place, told.err(), None)?;
+        self.compare_trace(&trace, must.written)?;
         self.taken = from.saturating_add(must.used);
         Ok(must.used)
     }
 
+    // The whole of the trace of a leap that began here and must have written so many records.
+    fn compare_trace(&mut self, trace: &[Record], written: usize) -> Result<(), AllocError> {
+        let place = self.taken as u64;
+        for (at, record) in trace.iter().enumerate() {
+            match self.trial.course.record(self.taken, at) {
+                Some(done) if at < written => compare_record(self.report, place, *record, done)?,
+                _ => compare_mark(self.report, place, *record)?,
+            }
+        }
+        Ok(())
+    }
+
     /// A call that must be refused for its lines, by clock or by leap. Lines without fault are not tried.
-    pub fn misuse(
-        &mut self,
-        heap: Global,
-        random: &mut Random,
-        lines: &[u8],
-        report: &mut Report,
-    ) -> Result<(), AllocError> {
-        let fault = Second::lines_fault(lines);
-        if fault.is_none() {
+    pub fn misuse(&mut self, lines: &[u8]) -> Result<(), AllocError> {
+        let Err(fault) = Second::check_lines(lines) else {
             return Ok(());
-        }
-        let from = self.taken;
-        if random.one_in(2) {
+        };
+        let must = Some(Heard::from(fault));
+        let place = self.taken as u64;
+        if self.random.one_in(2) {
             let told = self.live.clock(&mut self.card, lines);
-            return self.compare_answer(from, told.err(), fault, report);
+            return self.report.compare_refusals(place, told.err(), must);
         }
-        let mut trace = vec![in heap; MARK; random.size_below(4)]?;
+        let mut trace = vec![in self.trial.alloc; MARK; self.random.size_below(4)]?;
         let told = self.live.leap(&mut self.card, lines, &mut trace);
         for record in trace.iter() {
-            compare_mark(report, from as u64, *record)?;
+            compare_mark(self.report, place, *record)?;
         }
-        self.compare_answer(from, told.err(), fault, report)
+        self.report.compare_refusals(place, told.err(), must)
+    }
+
+    /// Clocks all lines that are left.
+    pub fn finish(&mut self) -> Result<(), AllocError> {
+        let end = self.taken.saturating_add(self.left());
+        for lines in self.lines(self.taken..end).chunks(MOST_LINES) {
+            self.clock(lines.len())?;
+        }
+        Ok(())
+    }
+
+    fn compare_shown(&mut self, addresses: Range<u32>) -> Result<(), AllocError> {
+        for at in addresses {
+            self.report.compare(
+                Part::Shown,
+                at,
+                self.card.fetch(at),
+                self.trial.second.shown(at),
+            )?;
+        }
+        Ok(())
+    }
+
+    // All of the case's memory and a little more, both ends of the ROM, the panel, and on to address 0 again.
+    fn compare_buses(&mut self) -> Result<(), AllocError> {
+        let count = self.trial.case.words.len().min(300_000) as u32;
+        self.compare_shown(0..count.saturating_add(4))?;
+        self.compare_shown(0x3F_F7FE..0x3F_F804)?;
+        self.compare_shown(0x3F_F9FE..0x3F_FA02)?;
+        self.compare_shown(0x3F_FFE8..0x40_0004)
     }
 
     /// Ends the run: holds the core and compares all that can be read of core and bus.
-    pub fn end(
-        self,
-        case: &Case,
-        course: &Course,
-        second: &Second,
-        report: &mut Report,
-    ) -> Result<(), AllocError> {
-        let Running { card, live, taken } = self;
-        report.compare(Part::LinesTaken, 0, taken as u64, course.lines() as u64)?;
-        compare_buses(report, &card, second, case.words.len())?;
-        let held = live.hold();
-        compare_registers(report, &held, second)
+    pub fn end(mut self) -> Result<(), AllocError> {
+        let taken = self.taken as u64;
+        let lines = self.trial.course.lines() as u64;
+        self.report.compare(Part::LinesTaken, 0u8, taken, lines)?;
+        self.compare_buses()?;
+        let Running {
+            trial,
+            random: _,
+            report,
+            card: _,
+            live,
+            taken: _,
+        } = self;
+        compare_registers(report, &live.hold(), &trial.second)
     }
 }

@@ -1,32 +1,24 @@
 //! The three runs of the first machine over a case: by clock, by leap, and mixed.
-use crate::cases::{Case, Length};
 use crate::chance::Random;
-use crate::course::Course;
 use crate::running::{MOST_LINES, Running};
-use crate::tally::Report;
-use second::Second;
+use crate::tally::{Report, Run};
+use crate::trial::Trial;
 use std::alloc::{AllocError, Global};
+use std::ops::ControlFlow;
 
 // More calls than any run needs; what is left after them is clocked at once.
 const MOST_CALLS: u32 = 5_000;
 
-// How many lines a call is given at most.
-fn longest_call(length: Length) -> u32 {
-    match length {
-        Length::Short => 400,
-        Length::Long => 9_000,
-        Length::WholeFeed => 65_536,
-    }
-}
-
 // How many lines a call is given: often few, sometimes none, never more than are left.
-fn piece(random: &mut Random, length: Length, left: usize) -> usize {
+fn piece(running: &mut Running<'_>) -> usize {
+    let longest = running.trial.case.length.longest_call();
+    let random = &mut *running.random;
     let count = match random.below(8) {
         0 => random.size_below(3),
-        1 => random.size_below(longest_call(length)),
+        1 => random.size_below(longest),
         _ => random.size_below(60),
     };
-    count.min(left)
+    count.min(running.left())
 }
 
 fn room(random: &mut Random) -> usize {
@@ -36,118 +28,91 @@ fn room(random: &mut Random) -> usize {
     }
 }
 
-// Clocks all lines that are left.
-fn finish(
-    running: &mut Running,
-    case: &Case,
-    course: &Course,
-    report: &mut Report,
-) -> Result<(), AllocError> {
-    for _ in 0..20 {
-        let count = running.left(course).min(MOST_LINES);
-        if count > 0 {
-            running.clock(case, course, count, report)?;
-        }
-    }
-    Ok(())
-}
-
-/// By clock alone.
-pub fn by_clock(
-    case: &Case,
-    length: Length,
-    course: &Course,
-    second: &Second,
-    random: &mut Random,
-    report: &mut Report,
-) -> Result<(), AllocError> {
-    let mut running = Running::begin(case)?;
-    for _ in 0..MOST_CALLS {
-        let left = running.left(course);
-        if left == 0 {
-            break;
-        }
-        let count = piece(random, length, left);
-        running.clock(case, course, count, report)?;
-    }
-    finish(&mut running, case, course, report)?;
-    running.end(case, course, second, report)
-}
-
-/// By leap, and by clock where no whole share is left.
-pub fn by_leap(
-    heap: Global,
-    case: &Case,
-    length: Length,
-    course: &Course,
-    second: &Second,
-    random: &mut Random,
-    report: &mut Report,
-) -> Result<(), AllocError> {
-    let mut running = Running::begin(case)?;
-    for _ in 0..MOST_CALLS {
-        let left = running.left(course);
-        let count = piece(random, length, left);
-        let room = room(random);
-        let used = running.leap(heap, case, course, count, room, report)?;
-        if used == 0 && count == left && room > 0 {
-            break;
-        }
-    }
-    finish(&mut running, case, course, report)?;
-    running.end(case, course, second, report)
-}
-
 // Lines with a fault: some that are over 3, or more lines than a call takes.
-fn damaged(heap: Global, random: &mut Random) -> Result<Vec<u8>, AllocError> {
+fn damaged(alloc: Global, random: &mut Random) -> Result<Vec<u8>, AllocError> {
     let count = match random.below(400) {
         0 => random.size_below(3).saturating_add(MOST_LINES),
         _ => random.size_below(50),
     };
-    let mut lines = vec![in heap; 0u8; count]?;
-    for line in lines.iter_mut() {
-        *line = random.byte() % 4;
-    }
+    let mut lines: Vec<u8> = (0..count).map(|_| random.byte() % 4).collect(alloc)?;
     for _ in 0..random.below(4) {
-        let at = random.below(70_000) as usize;
+        let at = random.size_below(70_000) % count.max(1);
         let value = random.byte();
-        let length = lines.len();
-        if length > 0 {
-            lines[at % length] = value;
+        if let Some(line) = lines.get_mut(at) {
+            *line = value;
         }
     }
     Ok(lines)
 }
 
-/// By clock and leap in turns, with calls between them that must be refused.
-pub fn mixed(
-    heap: Global,
-    case: &Case,
-    length: Length,
-    course: &Course,
-    second: &Second,
-    random: &mut Random,
-    report: &mut Report,
-) -> Result<(), AllocError> {
-    let mut running = Running::begin(case)?;
-    for _ in 0..MOST_CALLS {
-        let left = running.left(course);
-        if left == 0 {
-            break;
+// One call by clock, until no line is left.
+fn by_clock(running: &mut Running<'_>) -> Result<ControlFlow<()>, AllocError> {
+    if running.left() == 0 {
+        return Ok(ControlFlow::Break(()));
+    }
+    let count = piece(running);
+    running.clock(count)?;
+    Ok(ControlFlow::Continue(()))
+}
+
+// One call by leap, until no whole share is left.
+fn by_leap(running: &mut Running<'_>) -> Result<ControlFlow<()>, AllocError> {
+    let left = running.left();
+    let count = piece(running);
+    let room = room(running.random);
+    let used = running.leap(count, room)?;
+    if used == 0 && count == left && room > 0 {
+        return Ok(ControlFlow::Break(()));
+    }
+    Ok(ControlFlow::Continue(()))
+}
+
+// One call by clock, by leap, or one that must be refused, until no line is left.
+fn mixed(running: &mut Running<'_>) -> Result<ControlFlow<()>, AllocError> {
+    if running.left() == 0 {
+        return Ok(ControlFlow::Break(()));
+    }
+    let count = piece(running);
+    match running.random.below(8) {
+        0 | 1 => {
+            let lines = damaged(running.trial.alloc, running.random)?;
+            running.misuse(&lines)?;
         }
-        let count = piece(random, length, left);
-        match random.below(8) {
-            0 | 1 => {
-                let lines = damaged(heap, random)?;
-                running.misuse(heap, random, &lines, report)?;
-            }
-            2 | 3 | 4 => running.clock(case, course, count, report)?,
-            _ => {
-                let room = room(random);
-                running.leap(heap, case, course, count, room, report)?;
-            }
+        2..=4 => running.clock(count)?,
+        _ => {
+            let room = room(running.random);
+            let _used = running.leap(count, room)?;
         }
     }
-    finish(&mut running, case, course, report)?;
-    running.end(case, course, second, report)
+    Ok(ControlFlow::Continue(()))
+}
+
+// One run: call by call as a step makes them, then by clock what is left. Both machines must end alike.
+fn run<F>(
+    trial: &Trial,
+    name: Run,
+    step: F,
+    random: &mut Random,
+    report: &mut Report,
+) -> Result<(), AllocError>
+where
+    F: Fn(&mut Running<'_>) -> Result<ControlFlow<()>, AllocError> + Drop,
+    requires { F.IsAlwaysCallable step }
+{
+    report.run = name;
+    let mut running = Running::begin(trial, random, report)?;
+    for _ in 0..MOST_CALLS {
+        if step(&mut running)?.is_break() {
+            break;
+        }
+    }
+    running.finish()?;
+    running.end()
+}
+
+/// The three runs.
+pub fn run_all(trial: &Trial, random: &mut Random, report: &mut Report) -> Result<(), AllocError> {
+    run(trial, Run::ByClock, by_clock, random, report)?;
+    run(trial, Run::ByLeap, by_leap, random, report)?;
+    run(trial, Run::Mixed, mixed, random, report)
 }

@@ -1,10 +1,15 @@
 //! What was compared, and what differed.
+use crate::course::Course;
 use crate::finished::Finished;
+use refusal::Refusal;
+use second::Fault;
 use std::alloc::{AllocError, Global};
+use std::collections::BTreeMap;
 use std::fmt;
+use std::num::Saturating;
 
 /// How the first machine was run.
-#[derive(Clone, Copy)]
+#[derive(Clone, Copy, PartialEq, Eq, Debug)]
 pub enum Run {
     ByClock,
     ByLeap,
@@ -12,8 +17,26 @@ pub enum Run {
     Deck,
 }
 
+impl fmt::Display for Run {
+    fn fmt<W: fmt::Write>(&self, f: &mut fmt::Formatter<W>) -> fmt::Result {
+        f.write_str(match self {
+            Run::ByClock => "by clock",
+            Run::ByLeap => "by leap",
+            Run::Mixed => "mixed",
+            Run::Deck => "deck",
+        })
+    }
+}
+
+/// What became of a deck.
+#[derive(Clone, Copy, PartialEq, Eq, Debug)]
+pub enum Outcome {
+    Refused,
+    Loaded,
+}
+
 /// What was compared.
-#[derive(Clone, Copy)]
+#[derive(Clone, Copy, PartialEq, Eq, Debug)]
 pub enum Part {
     Instructions,
     Stalls,
@@ -34,156 +57,15 @@ pub enum Part {
     Flags,
     Shown,
     LinesTaken,
-    Kept,
-    Loaded,
+    LinesAdded,
+    DeckWords(Outcome),
+    DeckRegisters(Outcome),
+    DeckLines(Outcome),
 }
 
-/// A difference: in the case or deck of a seed, at a place (a line, a register, an address, a row), what each machine told.
-#[derive(Clone, Copy)]
-pub struct Difference {
-    pub seed: u64,
-    pub run: Run,
-    pub part: Part,
-    pub place: u64,
-    pub first: u64,
-    pub second: u64,
-}
-
-// How many differences are kept to be printed; the others are counted.
-const MOST_KEPT: usize = 40;
-
-/// How often each refusal was heard from the first machine, by its number.
-#[derive(Clone, Copy)]
-pub struct Refusals {
-    counts: [u64; 16],
-}
-
-fn count_at(counts: &mut [u64; 16], number: u32) {
-    let at = (number % 16) as usize;
-    counts[at] = counts[at].saturating_add(1);
-}
-
-fn read_at(counts: &[u64; 16], number: u32) -> u64 {
-    counts[(number % 16) as usize]
-}
-
-impl Refusals {
-    pub fn count(&mut self, number: u32) {
-        count_at(&mut self.counts, number);
-    }
-
-    pub fn of(&self, number: u32) -> u64 {
-        read_at(&self.counts, number)
-    }
-}
-
-/// Counts of all that was compared, and the differences.
-#[derive(Drop)]
-pub struct Report {
-    pub seed: u64,
-    pub run: Run,
-    pub programs: u64,
-    pub lines: u64,
-    pub stalls: u64,
-    pub instructions: u64,
-    pub finished: Finished,
-    pub clockings: u64,
-    pub leaps: u64,
-    pub decks: u64,
-    pub loaded: u64,
-    pub refusals: Refusals,
-    pub compared: u64,
-    pub differences: u64,
-    pub kept: Vec<Difference>,
-}
-
-impl Report {
-    pub fn new(heap: Global) -> Result<Report, AllocError> {
-        Ok(Report {
-            seed: 0,
-            run: Run::ByClock,
-            programs: 0,
-            lines: 0,
-            stalls: 0,
-            instructions: 0,
-            finished: Finished::new(heap)?,
-            clockings: 0,
-            leaps: 0,
-            decks: 0,
-            loaded: 0,
-            refusals: Refusals { counts: [0; 16] },
-            compared: 0,
-            differences: 0,
-            kept: Vec::new(heap),
-        })
-    }
-
-    /// Compares what the two machines told of a part.
-    pub fn compare(
-        &mut self,
-        part: Part,
-        place: u64,
-        first: u64,
-        second: u64,
-    ) -> Result<(), AllocError> {
-        self.compared = self.compared.saturating_add(1);
-        if first == second {
-            return Ok(());
-        }
-        self.differences = self.differences.saturating_add(1);
-        if self.kept.len() < MOST_KEPT {
-            let difference = Difference {
-                seed: self.seed,
-                run: self.run,
-                part,
-                place,
-                first,
-                second,
-            };
-            self.kept.push(difference)?;
-        }
-        Ok(())
-    }
-
-    /// Compares refusals, number and place; none counts as number 0 at place 0.
-    pub fn compare_refusals(
-        &mut self,
-        place: u64,
-        first: Option<(u32, u32)>,
-        second: Option<(u32, u32)>,
-    ) -> Result<(), AllocError> {
-        let (number, fault) = first.unwrap_or((0, 0));
-        self.refusals.count(number);
-        let (other_number, other_fault) = second.unwrap_or((0, 0));
-        self.compare(
-            Part::RefusalNumber,
-            place,
-            u64::from(number),
-            u64::from(other_number),
-        )?;
-        self.compare(
-            Part::RefusalPlace,
-            place,
-            u64::from(fault),
-            u64::from(other_fault),
-        )
-    }
-}
-
-impl Run {
-    fn name(self) -> &'static str {
-        match self {
-            Run::ByClock => "by clock",
-            Run::ByLeap => "by leap",
-            Run::Mixed => "mixed",
-            Run::Deck => "deck",
-        }
-    }
-}
-
-impl Part {
-    fn name(self) -> &'static str {
-        match self {
+impl fmt::Display for Part {
+    fn fmt<W: fmt::Write>(&self, f: &mut fmt::Formatter<W>) -> fmt::Result {
+        f.write_str(match self {
             Part::Instructions => "instructions told",
             Part::Stalls => "stalls told",
             Part::LinesUsed => "lines used",
@@ -203,23 +85,164 @@ impl Part {
             Part::Flags => "the flags",
             Part::Shown => "a word shown",
             Part::LinesTaken => "lines taken",
-            Part::Kept => "what a refused deck left",
-            Part::Loaded => "what a deck loaded",
+            Part::LinesAdded => "lines that a deck added",
+            Part::DeckWords(Outcome::Refused) => "words that a refused deck left",
+            Part::DeckWords(Outcome::Loaded) => "words that a deck loaded",
+            Part::DeckRegisters(Outcome::Refused) => "registers that a refused deck left",
+            Part::DeckRegisters(Outcome::Loaded) => "registers that a deck loaded",
+            Part::DeckLines(Outcome::Refused) => "lines that a refused deck left",
+            Part::DeckLines(Outcome::Loaded) => "lines that a deck loaded",
+        })
+    }
+}
+
+/// What a refusal tells: its number and its place.
+#[derive(Clone, Copy, PartialEq, Eq, Default, Debug)]
+pub struct Heard {
+    pub number: u32,
+    pub place: u32,
+}
+
+impl From<Refusal> for Heard {
+    fn from(refusal: Refusal) -> Heard {
+        Heard {
+            number: u32::from(refusal.number()),
+            place: refusal.place(),
         }
     }
 }
 
+impl From<Fault> for Heard {
+    fn from(fault: Fault) -> Heard {
+        Heard {
+            number: fault.number(),
+            place: fault.place(),
+        }
+    }
+}
+
+/// A difference: in the case or deck of a seed, at a place (a line, a register, an address, a row), what each machine told.
+#[derive(Clone, Copy, PartialEq, Eq, Debug)]
+pub struct Difference {
+    pub seed: u64,
+    pub run: Run,
+    pub part: Part,
+    pub place: u64,
+    pub first: u64,
+    pub second: u64,
+}
+
 impl fmt::Display for Difference {
     fn fmt<W: fmt::Write>(&self, f: &mut fmt::Formatter<W>) -> fmt::Result {
-        let seed = self.seed;
-        let run = self.run.name();
-        let part = self.part.name();
-        let place = self.place;
-        let first = self.first;
-        let second = self.second;
+        let Difference {
+            seed,
+            run,
+            part,
+            place,
+            first,
+            second,
+        } = *self;
         write!(
             f,
             "seed {seed}, {run}: {part} at {place}: first {first}, second {second}"
         )
+    }
+}
+
+// How many differences are kept to be printed; the others are counted.
+const MOST_KEPT: usize = 40;
+
+/// How much was run and compared.
+#[derive(Clone, Copy, PartialEq, Eq, Default, Debug)]
+pub struct Counts {
+    pub programs: Saturating<u64>,
+    pub lines: Saturating<u64>,
+    pub stalls: Saturating<u64>,
+    pub instructions: Saturating<u64>,
+    pub clockings: Saturating<u64>,
+    pub leaps: Saturating<u64>,
+    pub decks: Saturating<u64>,
+    pub loaded: Saturating<u64>,
+    pub compared: Saturating<u64>,
+    pub differences: Saturating<u64>,
+}
+
+/// Counts of all that was compared, and the differences.
+#[derive(Drop)]
+pub struct Report {
+    pub seed: u64,
+    pub run: Run,
+    pub counts: Counts,
+    pub finished: Finished,
+    /// How often each refusal was heard from the first machine, by its number.
+    pub refusals: BTreeMap<u32, Saturating<u64>>,
+    pub kept: Vec<Difference>,
+}
+
+impl Report {
+    pub fn new(alloc: Global) -> Report {
+        Report {
+            seed: 0,
+            run: Run::ByClock,
+            counts: Counts::default(),
+            finished: Finished::new(alloc),
+            refusals: BTreeMap::new(alloc),
+            kept: Vec::new(alloc),
+        }
+    }
+
+    /// Counts a program by its course.
+    pub fn count(&mut self, course: &Course) -> Result<(), AllocError> {
+        self.counts.programs += 1;
+        self.counts.lines += course.lines() as u64;
+        self.counts.stalls += course.stalls() as u64;
+        for finish in course.finishes() {
+            self.counts.instructions += 1;
+            self.finished.count(finish.done)?;
+        }
+        Ok(())
+    }
+
+    /// Compares what the two machines told of a part.
+    pub fn compare(
+        &mut self,
+        part: Part,
+        place: impl Into<u64>,
+        first: impl Into<u64>,
+        second: impl Into<u64>,
+    ) -> Result<(), AllocError> {
+        let difference = Difference {
+            seed: self.seed,
+            run: self.run,
+            part,
+            place: place.into(),
+            first: first.into(),
+            second: second.into(),
+        };
+        self.counts.compared += 1;
+        if difference.first != difference.second {
+            self.counts.differences += 1;
+            if self.kept.len() < MOST_KEPT {
+                self.kept.push(difference)?;
+            }
+        }
+        Ok(())
+    }
+
+    /// Compares what a call was refused for with what it must be refused for; no refusal counts as number 0 at place 0.
+    pub fn compare_refusals(
+        &mut self,
+        place: u64,
+        first: Option<Refusal>,
+        second: Option<Heard>,
+    ) -> Result<(), AllocError> {
+        let first = first.map(Heard::from);
+        if let Some(heard) = first {
+            *self.refusals.entry(heard.number)?.or_default() += 1;
+        }
+        let first = first.unwrap_or_default();
+        let second = second.unwrap_or_default();
+        self.compare(Part::RefusalNumber, place, first.number, second.number)?;
+        self.compare(Part::RefusalPlace, place, first.place, second.place)
     }
 }

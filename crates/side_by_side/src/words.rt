@@ -67,7 +67,7 @@ fn by_register(random: &mut Random) -> u32 {
 // A multiply or divide, by a register or a constant.
 fn unit_word(random: &mut Random) -> u32 {
     let operand = random.below(2) << 30 | random.below(0x1_0000);
-    let operation = (10 + random.below(2) % 2) << 16;
+    let operation = (10 + random.below(2)) << 16;
     any_uv(random) | written(random) | any_b(random) | operation | operand
 }
 
@@ -91,7 +91,7 @@ fn panel_access(random: &mut Random) -> u32 {
     let offset = if random.one_in(4) {
         random.below(64)
     } else {
-        random.below(8).wrapping_add(8)
+        random.below(8) + 8
     };
     access(random, CELLS, offset)
 }
@@ -122,7 +122,7 @@ fn condition(random: &mut Random) -> u32 {
 // Forward more often than back, so that few loops last for ever.
 fn near_branch(random: &mut Random) -> u32 {
     let displacement = if random.one_in(4) {
-        0u32.wrapping_sub(random.below(12))
+        random.below(12).wrapping_neg()
     } else {
         random.below(6)
     };
@@ -136,10 +136,8 @@ fn untaken_branch(random: &mut Random) -> u32 {
 
 // To one of the last addresses, some of which are the panel's cells, and from there on to 0.
 fn branch_to_top(random: &mut Random, at: u32) -> u32 {
-    let displacement = 0u32
-        .wrapping_sub(at)
-        .wrapping_sub(2)
-        .wrapping_sub(random.below(20));
+    let back = at.wrapping_add(2 + random.below(20));
+    let displacement = back.wrapping_neg();
     0xE000_0000 | condition(random) | displacement & DISPLACEMENT
 }
 
@@ -147,7 +145,7 @@ fn branch_to_top(random: &mut Random, at: u32) -> u32 {
 fn register_branch(random: &mut Random) -> u32 {
     let register = match random.below(8) {
         0 => random.below(16),
-        1 | 2 | 3 => PLACE,
+        1..=3 => PLACE,
         _ => 15,
     };
     0xC000_0000 | condition(random) | random.below(0x4000) << 6 | register
@@ -156,7 +154,7 @@ fn register_branch(random: &mut Random) -> u32 {
 // A branch by register that sets enable, returns from interrupt, or both.
 fn interrupt_word(random: &mut Random) -> u32 {
     match random.below(8) {
-        0 | 1 | 2 => ENABLE,
+        0..=2 => ENABLE,
         3 => RETURN,
         4 => 0xCF00_0010,
         5 => 0xCF00_0020 | random.below(32),
@@ -194,20 +192,15 @@ pub fn instruction(random: &mut Random, at: u32, count: u32) -> u32 {
     }
 }
 
-/// How many words a loop has that waits for the feed's bytes.
-pub const POLLING: u32 = 6;
-
-/// A word of that loop, by its place: it waits until the panel has a byte, loads it and stores it behind those before.
-pub fn polling(place: u32) -> u32 {
-    match place {
-        0 => 0x81E0_000C, // R1 := cell 3
-        1 => 0xE13F_FFFE, // if that is 0, again
-        2 => 0x92E0_0008, // R2 := the byte of cell 2
-        3 => 0xB2D0_0000, // store it at R13
-        4 => 0x4DD8_0001, // R13 := R13 + 1
-        _ => 0xE73F_FFFA, // go to the first
-    }
-}
+/// A loop that waits until the panel has a byte of the feed, loads it and stores it behind those before.
+pub const POLLING: [u32; 6] = [
+    0x81E0_000C, // R1 := cell 3
+    0xE13F_FFFE, // if that is 0, again
+    0x92E0_0008, // R2 := the byte of cell 2
+    0xB2D0_0000, // store it at R13
+    0x4DD8_0001, // R13 := R13 + 1
+    0xE73F_FFFA, // go to the first
+];
 
 /// A branch that is always taken, from an address to an address.
 pub fn go(at: u32, to: u32) -> u32 {
