@@ -9,13 +9,13 @@ use isa::Instruction;
 use machine::{Registers, Waiting};
 use unit::divider::Divider;
 use unit::multiplier::Multiplier;
-use unit::{Division, Factors, Pair, StepUnit, Words, waiting};
+use unit::{AtOnce, Division, Factors, Pair, StepUnit, Words, waiting};
 
 // The clocks before a unit's first step.
 const LEAD: u16 = 0;
 
 /// A step unit of the card, by what it takes from the registers for an instruction word.
-pub trait CardUnit: StepUnit<Pair = Pair, Answer = Words> {
+pub trait CardUnit: AtOnce<Pair = Pair, Answer = Words> {
     ghost taken: { ℕ → Registers → Self.Operands };
 
     fn operands(registers: &Registers, instruction: Instruction) -> Self::Operands

@@ -2,7 +2,7 @@
 ghost use Rattle.unit.specs.Steps.{div_start, div_step, div_answer};
 ghost use Rattle.unit.specs.Exact.{quotient, remainder};
 
-use crate::{Division, Pair, StepUnit, Words, native, reading};
+use crate::{AtOnce, Division, Pair, StepUnit, Words, native, reading};
 
 /// The unit of quotients.
 pub struct Divider;
@@ -23,8 +23,6 @@ impl StepUnit for Divider {
     ghost stepped = { div_step };
 
     ghost answer = { div_answer };
-
-    ghost exact = { λ division. record { low = quotient division; high = remainder division } };
 
     fn start(operands: Division) -> Pair {
         Pair {
@@ -50,6 +48,10 @@ impl StepUnit for Divider {
     fn result(_operands: Division, pair: Pair) -> Words {
         pair.words()
     }
+}
+
+impl AtOnce for Divider {
+    ghost exact = { λ division. record { low = quotient division; high = remainder division } };
 
     fn at_once(operands: Division) -> Words {
         native::divide(operands)

@@ -72,8 +72,6 @@ pub trait StepUnit {
 
     ghost answer: { Self.Operands → Self.Pair → Self.Answer };
 
-    ghost exact: { Self.Operands → Self.Answer };
-
     /// The pair before the first step.
     fn start(operands: Self::Operands) -> Self::Pair
         ensures { result ≡ started operands };
@@ -85,9 +83,14 @@ pub trait StepUnit {
     /// What the pair after the last step comes to.
     fn result(operands: Self::Operands, pair: Self::Pair) -> Self::Answer
         ensures { result ≡ answer operands pair };
+}
+
+/// A unit whose answer is also had at once. Waiting asks for no more than `StepUnit`.
+pub trait AtOnce: StepUnit {
+    ghost exact: { Self.Operands → Self.Answer };
 
     /// What all the steps come to, with no step made.
     fn at_once(operands: Self::Operands) -> Self::Answer
         ensures exact { result ≡ exact operands }
-        ensures steps { result ≡ answer operands (after (stepped operands) (started operands) STEPS) };
+        ensures steps { result ≡ Self.answer operands (after (Self.stepped operands) (Self.started operands) Self.STEPS) };
 }

@@ -3,7 +3,7 @@ ghost use Rattle.std.specs.Prelude.{◌≡◌, ◌^◌, pos, neg_ℤ, ◌≤ℤ�
 ghost use Rattle.unit.specs.Steps.{addend, mul_start, mul_step, mul_answer};
 ghost use Rattle.unit.specs.Exact.{product, words_of};
 
-use crate::{Factors, Pair, StepUnit, Words, native, reading, shift};
+use crate::{AtOnce, Factors, Pair, StepUnit, Words, native, reading, shift};
 
 /// The unit of products.
 pub struct Multiplier;
@@ -34,8 +34,6 @@ impl StepUnit for Multiplier {
 
     ghost answer = { mul_answer };
 
-    ghost exact = { λ factors. words_of (product factors) };
-
     fn start(operands: Factors) -> Pair {
         Pair {
             high: 0,
@@ -50,6 +48,10 @@ impl StepUnit for Multiplier {
     fn result(_operands: Factors, pair: Pair) -> Words {
         pair.words()
     }
+}
+
+impl AtOnce for Multiplier {
+    ghost exact = { λ factors. words_of (product factors) };
 
     fn at_once(operands: Factors) -> Words {
         native::multiply(operands)

@@ -6,7 +6,7 @@ use anyhow::bail;
 use isa::{Flags, Kind};
 use unit::divider::Divider;
 use unit::multiplier::Multiplier;
-use unit::{Division, Factors, Pair, StepUnit, Words, waiting};
+use unit::{AtOnce, Division, Factors, Pair, StepUnit, Words, waiting};
 
 // The pair that a wait of `total` clocks ends with, and the clocks that it took until it did not go on.
 fn wait<U: StepUnit<Pair = Pair>>(operands: U::Operands, lead: u16, total: u16) -> (Pair, u32) {
@@ -29,7 +29,7 @@ struct Ways {
     native: Words,
 }
 
-fn ways_of<U: StepUnit<Pair = Pair, Answer = Words>>(
+fn ways_of<U: AtOnce<Pair = Pair, Answer = Words>>(
     operands: U::Operands,
     lead: u16,
     closing: u16,
