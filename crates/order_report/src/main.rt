@@ -8,13 +8,10 @@ use std::process::ExitCode;
 
 fn tell_store(rt: &impl Print, address: u32, byte: u8) -> io::Result<()> {
     let ByteStore { at, word, marks } = ByteStore::new(address, byte);
-    print!(rt;
-        "   byte address {address}: byte {byte:>3} goes as {word:08X}H to word address {at}, marks "
-    )?;
-    for mark in <[bool; 4]>::from(marks) {
-        print!(rt; "{mark}", mark = u8::from(mark))?;
-    }
-    println!(rt)
+    let [b0, b1, b2, b3] = <[bool; 4]>::from(marks).map(u8::from);
+    println!(rt;
+        "   byte address {address}: byte {byte:>3} goes as {word:08X}H to word address {at}, marks {b0}{b1}{b2}{b3}"
+    )
 }
 
 fn tell_stores(rt: &impl Print, field: Field) -> io::Result<()> {

@@ -121,12 +121,12 @@ impl<'a> Case<'a> {
         let mut memory = vec![in rt.alloc(); 0u32; usize::from(self.words)]?;
         let mut registers = [0u32; 16];
         let mut buffer = vec![in rt.alloc(); 255u8; usize::from(self.lines)]?;
-        print!(rt; "{}: ", self.label)?;
         match load(&self.deck, &mut memory, &mut registers, &mut buffer) {
-            Ok(count) => print!(rt; "loaded {count} lines")?,
+            Ok(count) => print!(rt; "{}: loaded {count} lines", self.label)?,
             Err(refusal) => {
                 print!(rt;
-                    "refused {} {} {}",
+                    "{}: refused {} {} {}",
+                    self.label,
                     refusal.number(),
                     refusal.place(),
                     refusal.layer()

@@ -133,11 +133,10 @@ pub(crate) fn store(rt: &impl Print, word: u32, base: u32, value: u32) -> anyhow
     let address = instruction.address(base);
     let at = word_at(address);
     let Sent { word, marks } = instruction.store(address, value);
-    print!(rt; " byte address {address:06X}, word address {at:06X}, sent {word:08X}, marks ")?;
-    for mark in <[bool; 4]>::from(marks) {
-        print!(rt; "{}", u8::from(mark))?;
-    }
-    println!(rt)?;
+    let [b0, b1, b2, b3] = <[bool; 4]>::from(marks).map(u8::from);
+    println!(rt;
+        " byte address {address:06X}, word address {at:06X}, sent {word:08X}, marks {b0}{b1}{b2}{b3}"
+    )?;
     Ok(())
 }
 
