@@ -5,7 +5,7 @@ use Rattle.std.proofs.lemmas.List.{append-nil, drop-drop, drop_at, length-take-l
 use borrow.Rule.Slice.PartMut.{put_mid}
 
 module _ {X : Type 0} (a : ℕ) (xs ys : List X) (le : a ≤ length xs) where
-  replaced_rest : drop a (put_mid a (length xs - a) xs ys) ≡ ys
+  pub replaced_rest : drop a (put_mid a (length xs - a) xs ys) ≡ ys
   replaced_rest =
       let all : length (drop a xs) ≤ length xs - a = omega (arith, length-drop a xs) in
       drop_at (take a xs) _ a (length-take-le a xs le) ∙ ap (λ (r : List X). ys ++ r) (drop_of_length-le (drop a xs) all) ∙ append-nil ys

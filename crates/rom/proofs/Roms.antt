@@ -32,7 +32,7 @@ not_own : (a : ℕ) → place_of a ≡ None → in_rom a ≡ false
 not_own a e = ⊎_elim (λ own. let no : Some (a - 0x3FF800) ≡ None = sym (cond-true _ _ _ own) ∙ e in cc) (λ off. off) (cases_Bool (in_rom a))
 
 module _ (m : Meaning) (p q : List ℕ) (a : ℕ) (long : length p ≡ 512) where
-  own_shown : (k : ℕ) → place_of a ≡ Some k → get_or p k 0 < 2 ^ 32 → get_or p k 0 ≡ rom_shown m (p ++ q) a
+  pub own_shown : (k : ℕ) → place_of a ≡ Some k → get_or p k 0 < 2 ^ 32 → get_or p k 0 ≡ rom_shown m (p ++ q) a
   own_shown k e fit =
       let own = is_own a k e in
       let at : k < length p = omega arith in
@@ -40,6 +40,9 @@ module _ (m : Meaning) (p q : List ℕ) (a : ℕ) (long : length p ≡ 512) wher
 
   pub below_shown : place_of a ≡ None → m.shown q a ≡ rom_shown m (p ++ q) a
   below_shown e = sym (cond-false _ _ _ (not_own a e) ∙ ap (λ h. m.shown h a) (drop_at p q 512 long))
+
+  pub own_read : in_rom a ≡ true → p ++ q ≡ rom_read m (p ++ q) a
+  own_read e = sym (cond-true _ _ _ e)
 
   pub below_read : place_of a ≡ None → p ++ m.read q a ≡ rom_read m (p ++ q) a
   below_read e = sym (cond-false _ _ _ (not_own a e) ∙ over_at 512 (λ b. m.read b a) p q long)
